@@ -1,4 +1,5 @@
--- The output of a script: the machine's answers to its good lines, and then its first fault. What is saved of it: the machine's image at the end.
+-- The output of a script: the machine's answers to its good lines, and then its first fault. What is saved of it: the
+-- machine's image at the end.
 use Rattle.std.specs.Prelude.{ℕ, List, [], ◌∷◌, ◌++◌, map, Bool, false, Option, None, Some, is_some}
 use Rattle.std.specs.Option.{option_map_or}
 use Rattle.text_base.specs.Lines.{lines_of, rest_of}

@@ -14,7 +14,8 @@ item_in line = if is_skipped line then None else item_at line
 
 -- The first item must open the board, with sizes within the limits, and no later item may.
 abbrev pub item_fault : Bool → Option Item → Option ScriptFault
-item_fault false (Some (Opening processors pages ticket)) = if are_sizes processors pages then None else Some faults.Size
+item_fault false (Some (Opening processors pages ticket)) =
+    if are_sizes processors pages then None else Some faults.Size
 item_fault false (Some (Performs event)) = Some faults.First
 item_fault false (Some Summary) = Some faults.First
 item_fault false None = Some faults.First
@@ -41,12 +42,14 @@ at_line k (Some fault) later = Some (k, fault)
 -- the first fault and its line; the lines are counted from k
 abbrev pub first_fault : ℕ → Bool → List (List ℕ) → List ℕ → Option (ℕ × ScriptFault)
 first_fault k opened [] rest = at_line k (rest_fault opened rest) None
-first_fault k opened (line ∷ lines) rest = at_line k (line_fault opened line) (first_fault (k + 1) (opens opened line) lines rest)
+first_fault k opened (line ∷ lines) rest =
+    at_line k (line_fault opened line) (first_fault (k + 1) (opens opened line) lines rest)
 
 -- the lines before the first fault
 abbrev pub good_lines : Bool → List (List ℕ) → List (List ℕ)
 good_lines opened [] = []
-good_lines opened (line ∷ lines) = if is_some (line_fault opened line) then [] else line ∷ good_lines (opens opened line) lines
+good_lines opened (line ∷ lines) =
+    if is_some (line_fault opened line) then [] else line ∷ good_lines (opens opened line) lines
 
 -- the items of the good lines
 abbrev pub good_items : Bool → List (List ℕ) → List Item

@@ -17,9 +17,12 @@ pub record BegunText (of : List ℕ → List ℕ) (r0 r1 w0 w1 : Option (List �
   pub begins : of taken ≡ sent ++ unsent
 
 -- The reader and the writer before and after, of a script that starts in a state of the machine.
-abbrev pub ReplaysOn : Machine → ReplayEnd → Option (List ℕ) → Option (List ℕ) → Option (List ℕ) → Option (List ℕ) → Type 0
-ReplaysOn machine Done r0 r1 w0 w1 = IfSome r0 (λ input. (fault_on (is_some machine) input ≡ None) × Appends w0 w1 (text_on machine input))
-ReplaysOn machine (Script line fault) r0 r1 w0 w1 = IfSome r0 (λ input. (fault_on (is_some machine) input ≡ Some (line, fault)) × Appends w0 w1 (text_on machine input))
+abbrev pub ReplaysOn : Machine → ReplayEnd → Option (List ℕ) → Option (List ℕ) → Option (List ℕ) → Option (List ℕ)
+    → Type 0
+ReplaysOn machine Done r0 r1 w0 w1 =
+    IfSome r0 (λ input. (fault_on (is_some machine) input ≡ None) × Appends w0 w1 (text_on machine input))
+ReplaysOn machine (Script line fault) r0 r1 w0 w1 =
+    IfSome r0 (λ input. (fault_on (is_some machine) input ≡ Some (line, fault)) × Appends w0 w1 (text_on machine input))
 ReplaysOn machine Memory r0 r1 w0 w1 = BegunText (output_on machine) r0 r1 w0 w1
 ReplaysOn machine Reading r0 r1 w0 w1 = BegunText (output_on machine) r0 r1 w0 w1
 ReplaysOn machine Writing r0 r1 w0 w1 = BegunText (text_on machine) r0 r1 w0 w1
@@ -31,7 +34,8 @@ Replays = ReplaysOn None
 -- the same for a save: nothing is written before the whole input is read
 abbrev pub SavesText : ReplayEnd → Option (List ℕ) → Option (List ℕ) → Option (List ℕ) → Option (List ℕ) → Type 0
 SavesText Done r0 r1 w0 w1 = IfSome r0 (λ input. (fault_of input ≡ None) × Appends w0 w1 (saved_text input))
-SavesText (Script line fault) r0 r1 w0 w1 = IfSome r0 (λ input. (fault_of input ≡ Some (line, fault)) × Appends w0 w1 (saved_text input))
+SavesText (Script line fault) r0 r1 w0 w1 =
+    IfSome r0 (λ input. (fault_of input ≡ Some (line, fault)) × Appends w0 w1 (saved_text input))
 SavesText Memory r0 r1 w0 w1 = Appends w0 w1 []
 SavesText Reading r0 r1 w0 w1 = Appends w0 w1 []
 SavesText Writing r0 r1 w0 w1 = BegunText saved_text r0 r1 w0 w1

@@ -49,7 +49,8 @@ pub(crate) fn advance(
     notices: &mut Notices,
 ) -> Taken<ScriptFault>
     requires short { length line.now ≤ 640 }
-    ensures { Judges (λ old text answer new. Advances old text new) IsFaulty result (machine_of board.old) (machine_of board.new) line.now [] }
+    ensures { Judges (λ old text answer new. Advances old text new) IsFaulty result (machine_of board.old)
+        (machine_of board.new) line.now [] }
 {
     if skips(line) {
         return Taken::Good;
@@ -104,7 +105,8 @@ fn take_line(
     out: &mut Vec<u8>,
 ) -> Taken<ScriptFault>
     requires { out.old.items ≡ [] }
-    ensures { AnswersItem result (parse_item (fields_of line.now)) (Some board.old.state) (Some board.new.state) out.new.items }
+    ensures { AnswersItem result (parse_item (fields_of line.now)) (Some board.old.state)
+        (Some board.new.state) out.new.items }
 {
     // README text_lines: begin
     let performed = perform_event(&Fields::new(line), board, notices, |reply| reply);
@@ -135,7 +137,8 @@ fn pass_line(board: &mut Board, line: &[u8], notices: &mut Notices) -> Taken<Scr
 fn take_summary(board: &Board, line: &[u8], out: &mut Vec<u8>) -> Taken<ScriptFault>
     requires empty { out.old.items ≡ [] }
     requires none { parse_event (fields_of line.now) ≡ None }
-    ensures { AnswersItem result (parse_item (fields_of line.now)) (Some board.now.state) (Some board.now.state) out.new.items }
+    ensures { AnswersItem result (parse_item (fields_of line.now)) (Some board.now.state)
+        (Some board.now.state) out.new.items }
 {
     if !is_summary(line) {
         return Taken::Wrong(ScriptFault::Form);
@@ -149,7 +152,8 @@ fn take_summary(board: &Board, line: &[u8], out: &mut Vec<u8>) -> Taken<ScriptFa
 /// Whether a line that has no event is the line `summary`.
 fn is_summary(line: &[u8]) -> bool
     requires { parse_event (fields_of line.now) ≡ None }
-    ensures { MatchBool result (parse_item (fields_of line.now) ≡ Some Summary) (item_fault true (parse_item (fields_of line.now)) ≡ Some Form) }
+    ensures { MatchBool result (parse_item (fields_of line.now) ≡ Some Summary)
+        (item_fault true (parse_item (fields_of line.now)) ≡ Some Form) }
 {
     match Fields::new(line).after(b"summary") {
         Some(rest) => rest.is_empty(),
@@ -160,7 +164,8 @@ fn is_summary(line: &[u8]) -> bool
 /// Appends a reply, and a line for each notice, to `out`.
 #[inline(always)]
 fn put_outcome(out: &mut Vec<u8>, reply: Reply, notices: &[Notice]) -> Result<(), AllocError>
-    ensures { OnOk result (out.new.items ≡ out.old.items ++ text_of (reply_fields reply ∷ map notice_fields notices.now)) }
+    ensures { OnOk result (out.new.items
+        ≡ out.old.items ++ text_of (reply_fields reply ∷ map notice_fields notices.now)) }
 {
     put_reply(out, reply)?;
     put_notices(out, notices)

@@ -33,7 +33,8 @@ pub enum ReplayEnd {
 /// before each read and at the end. The memory that this allocates does not depend on the length of
 /// the script.
 pub fn replay<R: Read, W: Write>(alloc: Global, reader: &mut R, writer: &mut W) -> ReplayEnd
-    ensures text { Replays result (R.remaining reader.old) (R.remaining reader.new) (W.contents writer.old) (W.contents writer.new) }
+    ensures text { Replays result (R.remaining reader.old) (R.remaining reader.new) (W.contents writer.old)
+        (W.contents writer.new) }
     ensures limit { ReadsUpTo (most_read result) (R.remaining reader.old) (R.remaining reader.new) }
     ensures near { StopsNear result (R.remaining reader.old) (R.remaining reader.new) }
 {
@@ -48,7 +49,8 @@ pub fn replay_on<R: Read, W: Write>(
     reader: &mut R,
     writer: &mut W,
 ) -> ReplayEnd
-    ensures text { ReplaysOn (Some board.state) result (R.remaining reader.old) (R.remaining reader.new) (W.contents writer.old) (W.contents writer.new) }
+    ensures text { ReplaysOn (Some board.state) result (R.remaining reader.old) (R.remaining reader.new)
+        (W.contents writer.old) (W.contents writer.new) }
     ensures limit { ReadsUpTo (most_read result) (R.remaining reader.old) (R.remaining reader.new) }
     ensures near { StopsNear result (R.remaining reader.old) (R.remaining reader.new) }
 {
@@ -62,7 +64,8 @@ fn perform_script<R: Read, W: Write>(
     reader: &mut R,
     writer: &mut W,
 ) -> ReplayEnd
-    ensures text { ReplaysOn (machine_of board) result (R.remaining reader.old) (R.remaining reader.new) (W.contents writer.old) (W.contents writer.new) }
+    ensures text { ReplaysOn (machine_of board) result (R.remaining reader.old) (R.remaining reader.new)
+        (W.contents writer.old) (W.contents writer.new) }
     ensures limit { ReadsUpTo (most_read result) (R.remaining reader.old) (R.remaining reader.new) }
     ensures near { StopsNear result (R.remaining reader.old) (R.remaining reader.new) }
 {
@@ -130,7 +133,8 @@ fn finish<W: Write>(
 /// end. If a line is wrong, writes only its fault. Nothing is written before the whole script is
 /// read, and the writer is flushed at the end.
 pub fn save_script<R: Read, W: Write>(alloc: Global, reader: &mut R, writer: &mut W) -> ReplayEnd
-    ensures text { SavesText result (R.remaining reader.old) (R.remaining reader.new) (W.contents writer.old) (W.contents writer.new) }
+    ensures text { SavesText result (R.remaining reader.old) (R.remaining reader.new) (W.contents writer.old)
+        (W.contents writer.new) }
     ensures limit { ReadsUpTo (most_read result) (R.remaining reader.old) (R.remaining reader.new) }
     ensures near { StopsNear result (R.remaining reader.old) (R.remaining reader.new) }
 {

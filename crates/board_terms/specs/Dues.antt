@@ -25,7 +25,8 @@ earlier o x = option_map_or (λ r. if nat_lt x.0 r.0 then x else r) o x
 -- the least deadline and its number, among the numbers below n
 unfoldable pub least_below : Dues → ℕ → Option (ℕ × ℕ)
 least_below m zero = None
-least_below m (suc n) = option_map_or (λ d. Some (earlier (least_below m n) (d, n))) (slice_index_or m n None) (least_below m n)
+least_below m (suc n) =
+    option_map_or (λ d. Some (earlier (least_below m n) (d, n))) (slice_index_or m n None) (least_below m n)
 
 -- the least (due, processor, index)
 unfoldable pub least : Dues → Option (Moment × TimerId)

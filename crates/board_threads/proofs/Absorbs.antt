@@ -24,11 +24,13 @@ use Rattle.board_threads.specs.declared.settling.ActorCalls.{ActorCalls}
 use Rattle.board_threads.proofs.Counting.{counted, sum-map}
 
 -- a call sweeps nothing, or a word
-one-sweep : (P : List Action → Type 0) (e : Event) (r : Reply) → P [] → ((w n : ℕ) → P (Sweep w n ∷ [])) → P (sweep_in e r)
-one-sweep P (Absorb p part bits) r none some = elim (is_refusal r) as (λ b. P (if b then [] else sweep_of p part bits ∷ [])) [
-  | true ↦ none
-  | false ↦ some _ bits
-]
+one-sweep : (P : List Action → Type 0) (e : Event) (r : Reply) → P [] → ((w n : ℕ) → P (Sweep w n ∷ []))
+    → P (sweep_in e r)
+one-sweep P (Absorb p part bits) r none some =
+    elim (is_refusal r) as (λ b. P (if b then [] else sweep_of p part bits ∷ [])) [
+      | true ↦ none
+      | false ↦ some _ bits
+    ]
 one-sweep P e r none some = none
 
 abbrev swept : Call → List Action
@@ -37,22 +39,37 @@ swept c = sweep_in c.0 c.1
 module _ (w b : ℕ) where
   fresh-none : (calls : List Call) → fresh w b (flat_map swept calls) ≡ 0
   fresh-none [] = refl
-  fresh-none (c ∷ calls) = one-sweep (λ l. fresh w b (l ++ flat_map swept calls) ≡ 0) c.0 c.1 (fresh-none calls) (λ _ _. let r = fresh-none calls in omega arith)
+  fresh-none (c ∷ calls) =
+      one-sweep (λ l. fresh w b (l ++ flat_map swept calls) ≡ 0) c.0 c.1 (fresh-none calls)
+      (λ _ _. let r = fresh-none calls in omega arith)
 
   raised-none : (calls : List Call) → times_raised w b (flat_map swept calls) ≡ 0
   raised-none [] = refl
-  raised-none (c ∷ calls) = one-sweep (λ l. times_raised w b (l ++ flat_map swept calls) ≡ 0) c.0 c.1 (raised-none calls) (λ _ _. let r = raised-none calls in omega arith)
+  raised-none (c ∷ calls) =
+      one-sweep (λ l. times_raised w b (l ++ flat_map swept calls) ≡ 0) c.0 c.1 (raised-none calls)
+      (λ _ _. let r = raised-none calls in omega arith)
 
   taken-append : (xs ys : List Action) → times_taken w b (xs ++ ys) ≡ times_taken w b xs + times_taken w b ys
   taken-append [] ys = omega arith
   taken-append (x ∷ xs) ys = let r = taken-append xs ys in omega arith
 
-  taken-flat : (calls : List Call) → times_taken w b (flat_map swept calls) ≡ sum_by (λ (c : Call). times_taken w b (swept c)) calls
+  taken-flat : (calls : List Call)
+      → times_taken w b (flat_map swept calls) ≡ sum_by (λ (c : Call). times_taken w b (swept c)) calls
   taken-flat [] = refl
-  taken-flat (c ∷ calls) = omega (arith, taken-append (swept c) (flat_map swept calls), taken-flat calls, sum_by-cons (λ (d : Call). times_taken w b (swept d)) c calls)
+  taken-flat (c ∷ calls) =
+      omega (
+        arith,
+        taken-append (swept c) (flat_map swept calls),
+        taken-flat calls,
+        sum_by-cons (λ (d : Call). times_taken w b (swept d)) c calls,
+      )
 
-  taken-all : (calls : List Call) → times_taken w b (sweeps_of calls) ≡ sum_by (λ (c : Call). times_taken w b (swept c)) calls
-  taken-all calls = taken-flat (reverse calls) ∙ sum_by-IsPermutation (λ (c : Call). times_taken w b (swept c)) calls (reverse calls) (IsPermutation-reverse calls)
+  taken-all : (calls : List Call)
+      → times_taken w b (sweeps_of calls) ≡ sum_by (λ (c : Call). times_taken w b (swept c)) calls
+  taken-all calls =
+      taken-flat (reverse calls)
+      ∙ sum_by-IsPermutation (λ (c : Call). times_taken w b (swept c)) calls (reverse calls)
+      (IsPermutation-reverse calls)
 
   -- a line takes nothing
   only-raised : (log : List Action) → only_raises log ≡ true → times_taken w b log ≡ 0
@@ -60,11 +77,17 @@ module _ (w b : ℕ) where
   only-raised (Raise word bit fresh ∷ log) only = let r = only-raised log only in omega arith
   only-raised (Sweep word bits ∷ log) only = absurd (cc)
 
-  lines-take : (lines : List Token) → All (λ (t : Token). only_raises t.actions ≡ true) lines → sum_by (times_taken w b) (map actions_of lines) ≡ 0
+  lines-take : (lines : List Token) → All (λ (t : Token). only_raises t.actions ≡ true) lines
+      → sum_by (times_taken w b) (map actions_of lines) ≡ 0
   lines-take [] only = refl
   lines-take (t ∷ lines) only =
       let P = λ (x : Token). only_raises x.actions ≡ true in
-      omega (arith, only-raised t.actions (All-head P t lines only), lines-take lines (All-tail P t lines only), sum_by-cons (times_taken w b) t.actions (map actions_of lines))
+      omega (
+        arith,
+        only-raised t.actions (All-head P t lines only),
+        lines-take lines (All-tail P t lines only),
+        sum_by-cons (times_taken w b) t.actions (map actions_of lines),
+      )
 
 module _ {A : Type 0} where
   none : (f : A → ℕ) (xs : List A) → ((x : A) → f x ≡ 0) → sum_by f xs ≡ 0
@@ -82,26 +105,33 @@ abbrev IsOwn : Acting → Type 0
 IsOwn a = a.actions ≡ sweeps_of a.calls
 
 -- the logs of the sweepers, given the returned lists
-logs-are : (actors : List Acting) (ended : List ActorCalls) → map calls_given ended ≡ map calls_held actors → All IsOwn actors → map (λ (a : Acting). a.actions) actors ≡ map log_of ended
+logs-are : (actors : List Acting) (ended : List ActorCalls) → map calls_given ended ≡ map calls_held actors
+    → All IsOwn actors → map (λ (a : Acting). a.actions) actors ≡ map log_of ended
 logs-are [] [] is own = refl
 logs-are [] (e ∷ ended) is own = absurd (cc)
 logs-are (a ∷ actors) [] is own = absurd (cc)
 logs-are (a ∷ actors) (e ∷ ended) is own =
     let head : calls_given e ≡ calls_held a = cc in
     let tail : map calls_given ended ≡ map calls_held actors = cc in
-    λ i. (All-head IsOwn a actors own ∙ ap (λ (x : ℕ × List Call). sweeps_of x.1) (sym head)) i ∷ logs-are actors ended tail (All-tail IsOwn a actors own) i
+    λ i. (All-head IsOwn a actors own ∙ ap (λ (x : ℕ × List Call). sweeps_of x.1) (sym head)) i ∷ logs-are actors
+    ended tail (All-tail IsOwn a actors own) i
 
-dids : (actors : List Acting) → map actions_of (map (λ (a : Acting). token a.of a.actions) actors) ≡ map (λ (a : Acting). a.actions) actors
+dids : (actors : List Acting)
+    → map actions_of (map (λ (a : Acting). token a.of a.actions) actors) ≡ map (λ (a : Acting). a.actions) actors
 dids [] = refl
 dids (a ∷ actors) = ap (λ l. a.actions ∷ l) (dids actors)
 
-pub are-absorbed : (n : ℕ) (sweepers : List Token) (actors : List Acting) (ended : List ActorCalls) (lines : List Token) (h : List Entry) (standing : List ℕ)
-    → sweepers ≡ map (λ (a : Acting). token a.of a.actions) actors → map calls_given ended ≡ map calls_held actors → All IsOwn actors → All (λ (t : Token). only_raises t.actions ≡ true) lines
-    → AreAllOf h ended → length standing ≡ n → Settled n (map actions_of (sweepers ++ lines)) standing → AreAbsorbed n (map actions_of lines) h standing
+pub are-absorbed : (n : ℕ) (sweepers : List Token) (actors : List Acting) (ended : List ActorCalls)
+    (lines : List Token) (h : List Entry) (standing : List ℕ)
+    → sweepers ≡ map (λ (a : Acting). token a.of a.actions) actors → map calls_given ended ≡ map calls_held actors
+    → All IsOwn actors → All (λ (t : Token). only_raises t.actions ≡ true) lines
+    → AreAllOf h ended → length standing ≡ n → Settled n (map actions_of (sweepers ++ lines)) standing
+    → AreAbsorbed n (map actions_of lines) h standing
 are-absorbed n sweepers actors ended lines h standing are out own only all width s =
     let logs = map log_of ended in
     let both : map actions_of (sweepers ++ lines) ≡ logs ++ map actions_of lines =
-    map-append actions_of sweepers lines ∙ (λ i. (ap (map actions_of) are ∙ dids actors ∙ logs-are actors ended out own) i ++ map actions_of lines) in
+    map-append actions_of sweepers lines
+    ∙ (λ i. (ap (map actions_of) are ∙ dids actors ∙ logs-are actors ended out own) i ++ map actions_of lines) in
     let settled : Settled n (logs ++ map actions_of lines) standing = subst (λ l. Settled n l standing) both s in
     record {
       words = width;
@@ -115,13 +145,16 @@ are-absorbed n sweepers actors ended lines h standing are out own only all width
             none (λ a. fresh w b (log_of a)) ended (λ a. fresh-none w b (reverse a.calls.items)),
             lines-take w b lines only,
             sum-map (times_taken w b) log_of ended,
-            same (λ a. times_taken w b (log_of a)) (λ a. sum_by (λ (c : Call). times_taken w b (swept c)) a.calls.items) ended (λ a. taken-all w b a.calls.items),
+            same (λ a. times_taken w b (log_of a))
+                (λ a. sum_by (λ (c : Call). times_taken w b (swept c)) a.calls.items) ended
+                (λ a. taken-all w b a.calls.items),
             counted (λ e r. times_taken w b (sweep_in e r)) h ended all,
           );
       some = λ w b raise.
           omega (
             arith,
-            some_fresh _ _ w b (logs ++ map actions_of lines) settled.bounded (omega (arith, raise, sum_by-append (times_raised w b) logs (map actions_of lines))),
+            some_fresh _ _ w b (logs ++ map actions_of lines) settled.bounded
+                (omega (arith, raise, sum_by-append (times_raised w b) logs (map actions_of lines))),
             sum_by-append (fresh w b) logs (map actions_of lines),
             sum-map (fresh w b) log_of ended,
             none (λ a. fresh w b (log_of a)) ended (λ a. fresh-none w b (reverse a.calls.items)),

@@ -20,14 +20,19 @@ module _ {A B : Type 0} where
   sum-map f g (x ∷ xs) = omega (arith, sum_by-cons f (g x) (map g xs), sum_by-cons (λ y. f (g y)) x xs, sum-map f g xs)
 
 -- the calls without one number's include no entry of another
-others : (n m : ℕ) (h : List Entry) → n ≢ m → filter (λ e. n == e.actor) (filter (λ e. not (m == e.actor)) h) ≡ filter (λ e. n == e.actor) h
+others : (n m : ℕ) (h : List Entry) → n ≢ m
+    → filter (λ e. n == e.actor) (filter (λ e. not (m == e.actor)) h) ≡ filter (λ e. n == e.actor) h
 others n m [] differ = refl
 others n m (e ∷ h) differ = one (m == e.actor) (λ is. grind (arith, nat_tests)) (others n m h differ)
   where
-    one : (b : Bool) → (b ≡ true → (n == e.actor) ≡ false) → filter (λ x. n == x.actor) (filter (λ x. not (m == x.actor)) h) ≡ filter (λ x. n == x.actor) h
-        → filter (λ x. n == x.actor) (cond (not b) (e ∷ filter (λ x. not (m == x.actor)) h) (filter (λ x. not (m == x.actor)) h)) ≡ cond (n == e.actor)
+    one : (b : Bool) → (b ≡ true → (n == e.actor) ≡ false)
+        → filter (λ x. n == x.actor) (filter (λ x. not (m == x.actor)) h) ≡ filter (λ x. n == x.actor) h
+        → filter (λ x. n == x.actor)
+        (cond (not b) (e ∷ filter (λ x. not (m == x.actor)) h) (filter (λ x. not (m == x.actor)) h))
+        ≡ cond (n == e.actor)
         (e ∷ filter (λ x. n == x.actor) h) (filter (λ x. n == x.actor) h)
-    one true other rest = rest ∙ (λ i. cond (sym (other refl) i) (e ∷ filter (λ x. n == x.actor) h) (filter (λ x. n == x.actor) h))
+    one true other rest =
+        rest ∙ (λ i. cond (sym (other refl) i) (e ∷ filter (λ x. n == x.actor) h) (filter (λ x. n == x.actor) h))
     one false other rest = ap (λ (l : List Entry). cond (n == e.actor) (e ∷ l) l) rest
 
 module _ (f : Event → Reply → ℕ) where
@@ -44,22 +49,29 @@ module _ (f : Event → Reply → ℕ) where
   empty [] all = refl
   empty (e ∷ h) all = absurd (omega arith)
 
-  by_actors : (h : List Entry) (actors : List ActorCalls) → HaveOwnNumbers actors → All (λ (a : ActorCalls). calls_by a.number h ≡ a.calls.items) actors
+  by_actors : (h : List Entry) (actors : List ActorCalls) → HaveOwnNumbers actors
+      → All (λ (a : ActorCalls). calls_by a.number h ≡ a.calls.items) actors
       → sum_by (λ (a : ActorCalls). length a.calls.items) actors ≡ length h → sum_by of_entry h ≡ sum_by of_actor actors
   by_actors h [] numbers own all = empty h all
   by_actors h (a ∷ rest) numbers own all =
       let mine : Entry → Bool = λ e. a.number == e.actor in
       let left = filter (λ (e : Entry). not (mine e)) h in
-      let first : calls_by a.number h ≡ a.calls.items = All-head (λ (b : ActorCalls). calls_by b.number h ≡ b.calls.items) a rest own in
-      let later : All (λ (b : ActorCalls). calls_by b.number h ≡ b.calls.items) rest = All-tail (λ (b : ActorCalls). calls_by b.number h ≡ b.calls.items) a rest own in
+      let first : calls_by a.number h ≡ a.calls.items =
+      All-head (λ (b : ActorCalls). calls_by b.number h ≡ b.calls.items) a rest own in
+      let later : All (λ (b : ActorCalls). calls_by b.number h ≡ b.calls.items) rest =
+      All-tail (λ (b : ActorCalls). calls_by b.number h ≡ b.calls.items) a rest own in
       let lengths = length-filter_both mine (λ e. not (mine e)) (λ _. refl) h in
       let sums = sum_by-filter_both mine (λ e. not (mine e)) (λ _. refl) of_entry h in
-      let many : length (filter mine h) ≡ length a.calls.items = sym (length-map (filter mine h) call_of) ∙ ap length first in
-      let counted : sum_by of_entry (filter mine h) ≡ of_actor a = sym (sum-map of_call call_of (filter mine h)) ∙ ap (sum_by of_call) first in
-      let r = by_actors left rest numbers.1 (λ k d lt. ap (map call_of) (others _ a.number h (numbers.0 k d lt)) ∙ later k d lt)
+      let many : length (filter mine h) ≡ length a.calls.items =
+      sym (length-map (filter mine h) call_of) ∙ ap length first in
+      let counted : sum_by of_entry (filter mine h) ≡ of_actor a =
+      sym (sum-map of_call call_of (filter mine h)) ∙ ap (sum_by of_call) first in
+      let r = by_actors left rest numbers.1
+      (λ k d lt. ap (map call_of) (others _ a.number h (numbers.0 k d lt)) ∙ later k d lt)
       (omega (arith, lengths, many, all, sum_by-cons (λ (b : ActorCalls). length b.calls.items) a rest)) in
       omega (arith, r, sums, counted, sum_by-cons of_actor a rest)
 
 pub counted : (f : Event → Reply → ℕ) (h : List Entry) (actors : List ActorCalls) → AreAllOf h actors →
-    sum_by (λ (e : Entry). f e.event e.reply) h ≡ sum_by (λ (a : ActorCalls). sum_by (λ (c : Call). f c.0 c.1) a.calls.items) actors
+    sum_by (λ (e : Entry). f e.event e.reply) h
+    ≡ sum_by (λ (a : ActorCalls). sum_by (λ (c : Call). f c.0 c.1) a.calls.items) actors
 counted f h actors all = by_actors f h actors all.numbers all.own all.all

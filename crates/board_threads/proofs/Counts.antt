@@ -10,6 +10,9 @@ use Rattle.synic_board.specs.declared.event.Event.{Event}
 use Rattle.synic_board.specs.declared.event.Reply.{Reply}
 use Rattle.synic_board.proofs.keeping.Steps.{keeps-step}
 
-pub count-kept : (s now : State) (e : Event) (reply : Reply) (notices : List Notice) → PayloadFits e → IsSound s → (now, reply, notices) ≡ step s e → processors now ≡ processors s
+pub count-kept : (s now : State) (e : Event) (reply : Reply) (notices : List Notice) → PayloadFits e → IsSound s
+    → (now, reply, notices) ≡ step s e → processors now ≡ processors s
 count-kept s now e reply notices fits sound is =
-    ap (λ (o : Outcome). processors o.0) is ∙ (keeps-step (processors s) s e fits (record { count = refl; whole = sound.whole; empty = sound.empty })).kept.count
+    ap (λ (o : Outcome). processors o.0) is
+    ∙ (keeps-step (processors s) s e fits
+    (record { count = refl; whole = sound.whole; empty = sound.empty })).kept.count

@@ -37,7 +37,8 @@ none-other n [] some main = refl
 none-other n (x ∷ xs) some main =
     let own : x.actor ≡ 0 = All-head IsMain x xs main in
     let test : (n == x.actor) ≡ false = grind (arith, nat_tests) in
-    λ i. if test i then x ∷ none-other n xs some (All-tail IsMain x xs main) i else none-other n xs some (All-tail IsMain x xs main) i
+    λ i. if test i then x ∷ none-other n xs some (All-tail IsMain x xs main) i
+    else none-other n xs some (All-tail IsMain x xs main) i
 
 module _ {A : Type 0} where
   same-cut : (xs ys zs ws : List A) → xs ++ ys ≡ zs ++ ws → length xs ≡ length zs → (xs ≡ zs) × (ys ≡ ws)
@@ -60,31 +61,48 @@ same-length [] (c ∷ calls) f = absurd f
 same-length (s ∷ steps) [] f = absurd f
 same-length (s ∷ steps) (c ∷ calls) f = let r = same-length steps calls f.1 in omega arith
 
-between-calls : (n : ℕ) (first between last : List Entry) → 0 < n → All IsMain first → All IsMain last → calls_by n (first ++ (between ++ last)) ≡ calls_by n between
+between-calls : (n : ℕ) (first between last : List Entry) → 0 < n → All IsMain first → All IsMain last
+    → calls_by n (first ++ (between ++ last)) ≡ calls_by n between
 between-calls n first between last some f l =
-    calls_by-append n first (between ++ last) ∙ (λ i. map call_of (none-other n first some f i) ++ calls_by-append n between last i)
+    calls_by-append n first (between ++ last)
+    ∙ (λ i. map call_of (none-other n first some f i) ++ calls_by-append n between last i)
     ∙ (λ i. calls_by n between ++ map call_of (none-other n last some l i)) ∙ append-nil (calls_by n between)
 
-others-between : (n : ℕ) (scripts : List (List Step)) (h first between last : List Entry) → 0 < n → h ≡ first ++ (between ++ last) → All IsMain first → All IsMain last →
+others-between : (n : ℕ) (scripts : List (List Step)) (h first between last : List Entry) → 0 < n
+    → h ≡ first ++ (between ++ last) → All IsMain first → All IsMain last →
     EachFollows n scripts h → EachFollows n scripts between
 others-between n [] h first between last some is f l each = tt
-others-between n (s ∷ scripts) h first between last some is f l each =
-    (subst (AreSteps s) (ap (calls_by n) is ∙ between-calls n first between last some f l) each.0, others-between (n + 1) scripts h first between last (omega arith) is f l each.1)
+others-between n (s ∷ scripts) h first between last some is f l each = (
+  subst (AreSteps s) (ap (calls_by n) is ∙ between-calls n first between last some f l) each.0,
+  others-between (n + 1) scripts h first between last (omega arith) is f l each.1,
+)
 
 -- the calls of actor 0 are at the ends, and the others' scripts between
-pub crewed : (name : TableId) (n : ℕ) (setup : List Event) (scripts : List (List Step)) (h : List Entry) (main : Acting) → InPlace (length setup) (4 * n) h → HasServed name n setup main
-    → calls_by 0 h ≡ main.calls → EachFollows 1 scripts h → length h ≡ length main.calls + sum_by (λ (s : List Step). length s) scripts → IsCrewHistory n setup scripts h
+pub crewed : (name : TableId) (n : ℕ) (setup : List Event) (scripts : List (List Step)) (h : List Entry)
+    (main : Acting) → InPlace (length setup) (4 * n) h → HasServed name n setup main
+    → calls_by 0 h ≡ main.calls → EachFollows 1 scripts h
+    → length h ≡ length main.calls + sum_by (λ (s : List Step). length s) scripts → IsCrewHistory n setup scripts h
 crewed name n setup scripts h main place served own each many =
     let first = place.first in
     let between = place.between in
     let last = place.last in
     let joined : map call_of first ++ (calls_by 0 between ++ map call_of last) ≡ served.before ++ served.after =
-    (λ i. map call_of (sym (all-main first place.main_first) i) ++ (calls_by 0 between ++ map call_of (sym (all-main last place.main_last) i)))
-    ∙ (λ i. calls_by 0 first ++ sym (calls_by-append 0 between last) i) ∙ sym (calls_by-append 0 first (between ++ last)) ∙ ap (calls_by 0) (sym place.is) ∙ own ∙ served.calls in
-    let before : length served.before ≡ length setup = omega (arith, same-length (acts setup) served.before served.begins, length-map setup (λ e. Act e)) in
-    let after : length served.after ≡ 4 * n = omega (arith, same-length (last_steps n) served.after served.ends, length-map-range_with_len last_step 0 (4 * n)) in
-    let cut = same-cut (map call_of first) (calls_by 0 between ++ map call_of last) served.before served.after joined (omega (arith, length-map first call_of, place.begins, before)) in
-    let rest = no-more (calls_by 0 between) (map call_of last) served.after cut.1 (omega (arith, length-map last call_of, place.ends_so, after)) in
+    (λ i. map call_of (sym (all-main first place.main_first) i)
+    ++ (calls_by 0 between ++ map call_of (sym (all-main last place.main_last) i)))
+    ∙ (λ i. calls_by 0 first ++ sym (calls_by-append 0 between last) i)
+    ∙ sym (calls_by-append 0 first (between ++ last)) ∙ ap (calls_by 0) (sym place.is) ∙ own ∙ served.calls in
+    let before : length served.before ≡ length setup =
+    omega (arith, same-length (acts setup) served.before served.begins, length-map setup (λ e. Act e)) in
+    let after : length served.after ≡ 4 * n =
+    omega (
+      arith,
+      same-length (last_steps n) served.after served.ends,
+      length-map-range_with_len last_step 0 (4 * n),
+    ) in
+    let cut = same-cut (map call_of first) (calls_by 0 between ++ map call_of last) served.before served.after joined
+    (omega (arith, length-map first call_of, place.begins, before)) in
+    let rest = no-more (calls_by 0 between) (map call_of last) served.after cut.1
+    (omega (arith, length-map last call_of, place.ends_so, after)) in
     record {
       first = first;
       between = between;
@@ -93,8 +111,16 @@ crewed name n setup scripts h main place served own each many =
       begins = record { number = place.main_first; follow = subst (AreSteps (acts setup)) (sym cut.0) served.begins };
       ends = record { number = place.main_last; follow = subst (AreSteps (last_steps n)) (sym rest.1) served.ends };
       main = rest.0;
-      others = others-between 1 scripts h first between last (omega arith) place.is place.main_first place.main_last each;
-      all = omega (arith, many, ap (λ (l : List Call). length l) served.calls, length-append served.before served.after, before, after);
+      others = others-between 1 scripts h first between last
+          (omega arith) place.is place.main_first place.main_last each;
+      all = omega (
+        arith,
+        many,
+        ap (λ (l : List Call). length l) served.calls,
+        length-append served.before served.after,
+        before,
+        after,
+      );
     }
 
 -- the actors' calls are as many as were returned
@@ -107,10 +133,17 @@ calls-add-up (e ∷ ended) (a ∷ actors) is =
     let head : calls_given e ≡ calls_held a = cc in
     let tail : map calls_given ended ≡ map calls_held actors = cc in
     let same : length e.calls.items ≡ length a.calls = ap (λ (x : ℕ × List Call). length x.1) head in
-    omega (arith, same, calls-add-up ended actors tail, sum_by-cons (λ (b : ActorCalls). length b.calls.items) e ended, sum_by-cons (λ (b : Acting). length b.calls) a actors)
+    omega (
+      arith,
+      same,
+      calls-add-up ended actors tail,
+      sum_by-cons (λ (b : ActorCalls). length b.calls.items) e ended,
+      sum_by-cons (λ (b : Acting). length b.calls) a actors,
+    )
 
 -- and as the steps of their scripts
-pub steps-add-up : (name : TableId) (scripts : List (Vec Step Global)) (others : List Acting) → AllZip (λ (s : Vec Step Global) (a : Acting). HasActed name a.number s.items a) scripts others
+pub steps-add-up : (name : TableId) (scripts : List (Vec Step Global)) (others : List Acting)
+    → AllZip (λ (s : Vec Step Global) (a : Acting). HasActed name a.number s.items a) scripts others
     → sum_by (λ (a : Acting). length a.calls) others ≡ sum_by (λ (s : List Step). length s) (lists scripts)
 steps-add-up name [] [] acted = refl
 steps-add-up name [] (a ∷ others) acted = absurd acted
@@ -128,21 +161,27 @@ abbrev pub StandsIn : List Entry → Acting → Type 0
 StandsIn h a = calls_by a.number h ≡ a.calls
 
 -- the entries of each actor are its calls, in its order
-pub stand : (h : List Entry) (ended : List ActorCalls) (actors : List Acting) → map calls_given ended ≡ map calls_held actors →
+pub stand : (h : List Entry) (ended : List ActorCalls) (actors : List Acting)
+    → map calls_given ended ≡ map calls_held actors →
     All (λ (a : ActorCalls). calls_by a.number h ≡ a.calls.items) ended → All (StandsIn h) actors
 stand h [] [] is own k d lt = absurd (omega arith)
 stand h [] (a ∷ actors) is own k d lt = absurd (cc)
 stand h (e ∷ ended) [] is own k d lt = absurd (omega arith)
 stand h (e ∷ ended) (a ∷ actors) is own zero d lt =
     let head : calls_given e ≡ calls_held a = cc in
-    ap (λ (x : ℕ × List Call). calls_by x.0 h) (sym head) ∙ All-head (λ (b : ActorCalls). calls_by b.number h ≡ b.calls.items) e ended own ∙ ap (λ (x : ℕ × List Call). x.1) head
+    ap (λ (x : ℕ × List Call). calls_by x.0 h) (sym head)
+    ∙ All-head (λ (b : ActorCalls). calls_by b.number h ≡ b.calls.items) e ended own
+    ∙ ap (λ (x : ℕ × List Call). x.1) head
 stand h (e ∷ ended) (a ∷ actors) is own (suc k) d lt =
     let tail : map calls_given ended ≡ map calls_held actors = cc in
-    stand h ended actors tail (All-tail (λ (b : ActorCalls). calls_by b.number h ≡ b.calls.items) e ended own) k d (omega arith)
+    stand h ended actors tail (All-tail (λ (b : ActorCalls). calls_by b.number h ≡ b.calls.items) e ended own) k d
+    (omega arith)
 
 -- each script is in the history, by the actor with its number
-pub each-stands : (name : TableId) (n : ℕ) (scripts : List (Vec Step Global)) (others : List Acting) (h : List Entry) → map (λ (a : Acting). a.number) others ≡ range_with_len n (length scripts)
-    → AllZip (λ (s : Vec Step Global) (a : Acting). HasActed name a.number s.items a) scripts others → All (StandsIn h) others → EachFollows n (lists scripts) h
+pub each-stands : (name : TableId) (n : ℕ) (scripts : List (Vec Step Global)) (others : List Acting) (h : List Entry)
+    → map (λ (a : Acting). a.number) others ≡ range_with_len n (length scripts)
+    → AllZip (λ (s : Vec Step Global) (a : Acting). HasActed name a.number s.items a) scripts others
+    → All (StandsIn h) others → EachFollows n (lists scripts) h
 each-stands name n [] [] h numbers acted own = tt
 each-stands name n [] (a ∷ others) h numbers acted own = absurd acted
 each-stands name n (s ∷ scripts) [] h numbers acted own = absurd acted
@@ -153,7 +192,8 @@ each-stands name n (s ∷ scripts) (a ∷ others) h numbers acted own =
       each-stands name (n + 1) scripts others h tail acted.1 (All-tail (StandsIn h) a others own),
     )
 
-pub numbers-are : (ended : List ActorCalls) (actors : List Acting) → map calls_given ended ≡ map calls_held actors → map (λ (a : ActorCalls). a.number) ended ≡ map (λ (a : Acting). a.number) actors
+pub numbers-are : (ended : List ActorCalls) (actors : List Acting) → map calls_given ended ≡ map calls_held actors
+    → map (λ (a : ActorCalls). a.number) ended ≡ map (λ (a : Acting). a.number) actors
 numbers-are [] [] is = refl
 numbers-are [] (a ∷ actors) is = absurd (cc)
 numbers-are (e ∷ ended) [] is = absurd (cc)

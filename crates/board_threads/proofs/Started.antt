@@ -13,7 +13,8 @@ abbrev pub pair : {A B : Type 0} → A → B → A × B
 pair a b = (a, b)
 
 -- The results of the threads of a list of handles satisfy the list of their postconditions, one by one.
-pub given : {H T S X : Type 0} (R : H → T → Type 0) (Q : S → T → Type 0) (f : H → X) (g : S → X) → ((h : H) (s : S) (t : T) → f h ≡ g s → R h t → Q s t)
+pub given : {H T S X : Type 0} (R : H → T → Type 0) (Q : S → T → Type 0) (f : H → X) (g : S → X)
+    → ((h : H) (s : S) (t : T) → f h ≡ g s → R h t → Q s t)
     → (hs : List H) (ss : List S) (ts : List T) → map f hs ≡ map g ss → AllZip R hs ts → AllZip Q ss ts
 given R Q f g step [] [] [] is all = tt
 given R Q f g step [] [] (t ∷ ts) is all = absurd all
@@ -26,7 +27,8 @@ given R Q f g step (h ∷ hs) (s ∷ ss) (t ∷ ts) is all =
     (step h s t head all.0, given R Q f g step hs ss ts tail all.1)
 
 -- a number that each thread preserves
-pub numbers-kept : {H T : Type 0} (R : H → T → Type 0) (f : H → ℕ) (g : T → ℕ) → ((h : H) (t : T) → R h t → g t ≡ f h) → (hs : List H) (ts : List T) → AllZip R hs ts → map g ts ≡ map f hs
+pub numbers-kept : {H T : Type 0} (R : H → T → Type 0) (f : H → ℕ) (g : T → ℕ) → ((h : H) (t : T) → R h t → g t ≡ f h)
+    → (hs : List H) (ts : List T) → AllZip R hs ts → map g ts ≡ map f hs
 numbers-kept R f g step [] [] all = refl
 numbers-kept R f g step [] (t ∷ ts) all = absurd all
 numbers-kept R f g step (h ∷ hs) [] all = absurd all
@@ -34,14 +36,16 @@ numbers-kept R f g step (h ∷ hs) (t ∷ ts) all = λ i. step h t all.0 i ∷ n
 
 module _ (name name' : TableId) where
   -- an actor that was to run a script on a board's words ran it
-  pub acted : (n : ℕ) (script : List Step) (s : Vec Step Global) (a : Acting) → pair name' script ≡ pair name s.items → HasActed name' n script a → HasActed name a.number s.items a
+  pub acted : (n : ℕ) (script : List Step) (s : Vec Step Global) (a : Acting) → pair name' script ≡ pair name s.items
+      → HasActed name' n script a → HasActed name a.number s.items a
   acted n script s a is h = record {
     of = h.of ∙ ap (λ (p : TableId × List Step). p.0) is;
     same = refl;
     follows = subst (λ (l : List Step). AreSteps l a.calls) (ap (λ (p : TableId × List Step). p.1) is) h.follows;
   }
 
-  pub raised : (script : List (ℕ × ℕ)) (s : Vec (ℕ × ℕ) Global) (x : Token × Vec Raised Global) → pair name' script ≡ pair name s.items →
+  pub raised : (script : List (ℕ × ℕ)) (s : Vec (ℕ × ℕ) Global) (x : Token × Vec Raised Global)
+      → pair name' script ≡ pair name s.items →
       HasRaised name' script x.0 x.1.items → HasRaised name s.items x.0 x.1.items
   raised script s x is h = record {
     of = h.of ∙ ap (λ (p : TableId × List (ℕ × ℕ)). p.0) is;

@@ -20,7 +20,8 @@ use Rattle.board_threads.specs.declared.script.Step.{Step}
 use Rattle.board_threads.specs.declared.script.Step.TheVariants.{Act, Sweep}
 use Rattle.board_threads.specs.declared.settling.ActorCalls.{ActorCalls}
 
--- a call performs a step of a script: a sweep appears as the absorb of the bits that it took, and a refused one took none
+-- a call performs a step of a script: a sweep appears as the absorb of the bits that it took, and a refused one took
+-- none
 abbrev pub IsStep : Step → Call → Type 0
 IsStep (Act e) c = c.0 ≡ e
 IsStep (Sweep vp part) c = (bits : ℕ) × (c.0 ≡ Absorb vp part bits) × (is_refusal c.1 ≡ true → bits ≡ 0)
@@ -74,7 +75,8 @@ pub record AreMain (steps : List Step) (entries : List Entry) : Type 0 where
   pub follow : AreSteps steps (map call_of entries)
 
 -- the history of a crew: the setup, then the calls of all scripts in any interleaving, then the last absorbs
-pub record IsCrewHistory (processors : ℕ) (setup : List Event) (scripts : List (List Step)) (history : List Entry) : Type 0 where
+pub record IsCrewHistory (processors : ℕ) (setup : List Event) (scripts : List (List Step))
+    (history : List Entry) : Type 0 where
   pub first : List Entry
   pub between : List Entry
   pub last : List Entry
@@ -86,12 +88,14 @@ pub record IsCrewHistory (processors : ℕ) (setup : List Event) (scripts : List
   -- and no other actor has an entry
   pub all : length history ≡ length setup + sum_by (λ (s : List Step). length s) scripts + 4 * processors
 
--- the result of a crew whose board was in a state when it began: the board is settled, the numbers of its actors are 0, 1, ..,
+-- the result of a crew whose board was in a state when it began: the board is settled, the numbers of its actors are
+-- 0, 1, ..,
 -- its history is one of the crew, each raise has a result, each fresh one was absorbed once, and no bit is left
 pub record IsCrewEnd (begun : State) (setup : Setup) (scripts : Scripts) (c : CrewEnd) : Type 0 where
   pub settled : IsSettled begun c.ended
   pub numbers : map (λ (a : ActorCalls). a.number) c.ended.actors.items ≡ range_with_len 0 (vec_len scripts.actors + 1)
   pub crewed : IsCrewHistory setup.processors setup.events.items (lists scripts.actors.items) c.ended.history.items
   pub each : AllZip HasEach (lists scripts.lines.items) (lists c.raised.items)
-  pub raises : AreAbsorbed (4 * setup.processors) (logs_of (lists scripts.lines.items) (lists c.raised.items)) c.ended.history.items c.ended.standing
+  pub raises : AreAbsorbed (4 * setup.processors)
+      (logs_of (lists scripts.lines.items) (lists c.raised.items)) c.ended.history.items c.ended.standing
   pub clear : All (λ (word : ℕ). word ≡ 0) c.ended.standing

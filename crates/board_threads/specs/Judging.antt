@@ -44,4 +44,5 @@ is_bad_line processors script = list_any (is_bad_raise processors) script.items
 
 abbrev pub has_bad_step : Setup → Scripts → Bool
 has_bad_step setup scripts =
-    list_any is_absorb setup.events.items || list_any is_bad_script scripts.actors.items || list_any (is_bad_line setup.processors) scripts.lines.items
+    list_any is_absorb setup.events.items || list_any is_bad_script scripts.actors.items
+    || list_any (is_bad_line setup.processors) scripts.lines.items

@@ -104,7 +104,8 @@ impl Actor {
         event: Event,
     ) -> Result<Reply, CallFault>
         requires { is_absorb event ≡ false }
-        ensures ok { IfOk result (λ r. self.new ≡ acting self.old.of self.old.number (self.old.calls ++ (event, r) ∷ []) self.old.actions) }
+        ensures ok { IfOk result
+            (λ r. self.new ≡ acting self.old.of self.old.number (self.old.calls ++ (event, r) ∷ []) self.old.actions) }
         ensures fault { OnErr result (self.new ≡ self.old) }
         ensures event { ¬ (IsErrOf result CallFault.AbsorbEvent) }
     {
@@ -134,8 +135,10 @@ impl Actor {
         requires own { self.old.of ≡ words.now.name }
         requires processors { words.now.processors ≡ processors S.start }
         ensures ok { IfOk result (λ r. (bits : ℕ)
-            × (self.new ≡ acting self.old.of self.old.number (self.old.calls ++ (Absorb vp part bits, r) ∷ []) (sweep_in (Absorb vp part bits) r ++ self.old.actions))) }
-        ensures refused { IfOk result (λ r. is_refusal r ≡ true → self.new.calls ≡ self.old.calls ++ (Absorb vp part 0, r) ∷ []) }
+            × (self.new ≡ acting self.old.of self.old.number (self.old.calls ++ (Absorb vp part bits, r) ∷ [])
+            (sweep_in (Absorb vp part bits) r ++ self.old.actions))) }
+        ensures refused { IfOk result
+            (λ r. is_refusal r ≡ true → self.new.calls ≡ self.old.calls ++ (Absorb vp part 0, r) ∷ []) }
         ensures fault { OnErr result (self.new ≡ self.old) }
         ensures event { ¬ (IsErrOf result CallFault.AbsorbEvent) }
     {

@@ -61,8 +61,10 @@ pub fn run_crew<R: Threads + Wait + Sync, G: Gate + Sync>(
     gate: &G,
 ) -> Result<CrewEnd, CrewFault>
     ensures size { IsErrOf result CrewFault.BadSize ↔ (¬ IsSized setup.now scripts.now) }
-    ensures step { IsErrOf result CrewFault.BadStep ↔ IsSized setup.now scripts.now × (has_bad_step setup.now scripts.now ≡ true) }
-    ensures ended { IfOk result (IsCrewEnd (opened setup.now.processors setup.now.pages setup.now.first_ticket) setup.now scripts.now) }
+    ensures step { IsErrOf result CrewFault.BadStep ↔ IsSized setup.now scripts.now
+        × (has_bad_step setup.now scripts.now ≡ true) }
+    ensures ended { IfOk result
+        (IsCrewEnd (opened setup.now.processors setup.now.pages setup.now.first_ticket) setup.now scripts.now) }
 {
     let fits = is_sized(setup, scripts);
     judge(fits, setup, scripts)?;
@@ -85,7 +87,8 @@ pub fn run_crew_on<R: Threads + Wait + Sync, G: Gate + Sync>(
     gate: &G,
 ) -> Result<CrewEnd, CrewFault>
     ensures size { IsErrOf result CrewFault.BadSize ↔ (¬ IsSizedOn (processors board.state) setup.now scripts.now) }
-    ensures step { IsErrOf result CrewFault.BadStep ↔ IsSizedOn (processors board.state) setup.now scripts.now × (has_bad_step setup.now scripts.now ≡ true) }
+    ensures step { IsErrOf result CrewFault.BadStep ↔ IsSizedOn (processors board.state) setup.now scripts.now
+        × (has_bad_step setup.now scripts.now ≡ true) }
     ensures ended { IfOk result (IsCrewEnd board.state setup.now scripts.now) }
 {
     let fits = is_sized_on(board.processors(), setup, scripts);

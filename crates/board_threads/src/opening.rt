@@ -22,7 +22,8 @@ pub(crate) fn number_all(
     mut sweepers: Vec<Sweeper>,
 ) -> Result<Vec<Actor>, AllocError>
     requires { (t : TableId) × (sweepers.items ≡ replicate count (token t [])) }
-    ensures { IfOk result (λ v. (t : TableId) → sweepers.items ≡ replicate count (token t []) → v.items ≡ map (new_actor t) (range_with_len 0 count)) }
+    ensures { IfOk result (λ v. (t : TableId) → sweepers.items ≡ replicate count (token t [])
+        → v.items ≡ map (new_actor t) (range_with_len 0 count)) }
 {
     let mut actors = Vec::new(alloc);
     for number in 0..count {

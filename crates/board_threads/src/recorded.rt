@@ -61,7 +61,8 @@ impl<S: Origin> Recorded<S> {
         actor: u8,
         event: &Event,
     ) -> Result<Reply, CallFault>
-        ensures history { IfOk result (λ r. self.new.history.entries ≡ self.old.history.entries ++ entry actor event.now r ∷ []) }
+        ensures history { IfOk result
+            (λ r. self.new.history.entries ≡ self.old.history.entries ++ entry actor event.now r ∷ []) }
         ensures unchanged { OnErr result (self.new.history.entries ≡ self.old.history.entries) }
         ensures room { OnOk result (has_room ≡ true) }
         ensures full { IsErrOf result CallFault.Full ↔ 65536 ≤ length self.old.history.entries }
@@ -84,8 +85,10 @@ impl<S: Origin> Recorded<S> {
     ) -> Result<(u64, Reply), CallFault>
         requires own { sweeper.old.of ≡ words.now.name }
         requires processors { words.now.processors ≡ processors S.start }
-        ensures history { IfOk result (λ r. self.new.history.entries ≡ self.old.history.entries ++ entry actor (Absorb vp part r.0) r.1 ∷ []) }
-        ensures swept { IfOk result (λ r. sweeper.new ≡ token sweeper.old.of (sweep_in (Absorb vp part r.0) r.1 ++ sweeper.old.actions)) }
+        ensures history { IfOk result
+            (λ r. self.new.history.entries ≡ self.old.history.entries ++ entry actor (Absorb vp part r.0) r.1 ∷ []) }
+        ensures swept { IfOk result
+            (λ r. sweeper.new ≡ token sweeper.old.of (sweep_in (Absorb vp part r.0) r.1 ++ sweeper.old.actions)) }
         ensures refused { IfOk result (λ r. is_refusal r.1 ≡ true → r.0 ≡ 0) }
         ensures unchanged { OnErr result (self.new.history.entries ≡ self.old.history.entries) }
         ensures kept { OnErr result (sweeper.new ≡ sweeper.old) }

@@ -125,7 +125,9 @@ impl<S: Origin> RecordedBoard<S> {
         actor: &mut Actor,
         event: Event,
     ) -> Result<Reply, CallFault>
-        ensures ok { IfOk result (λ r. actor.new ≡ acting actor.old.of actor.old.number (actor.old.calls ++ (event, r) ∷ []) actor.old.actions) }
+        ensures ok { IfOk result
+            (λ r. actor.new ≡ acting actor.old.of actor.old.number
+            (actor.old.calls ++ (event, r) ∷ []) actor.old.actions) }
         ensures fault { OnErr result (actor.new ≡ actor.old) }
         ensures absorb { IsErrOf result CallFault.AbsorbEvent ↔ is_absorb event ≡ true }
     {
@@ -149,8 +151,10 @@ impl<S: Origin> RecordedBoard<S> {
     ) -> Result<Reply, CallFault>
         requires own { actor.old.of ≡ self.now.name }
         ensures ok { IfOk result (λ r. (bits : ℕ)
-            × (actor.new ≡ acting actor.old.of actor.old.number (actor.old.calls ++ (Absorb vp part bits, r) ∷ []) (sweep_in (Absorb vp part bits) r ++ actor.old.actions))) }
-        ensures refused { IfOk result (λ r. is_refusal r ≡ true → actor.new.calls ≡ actor.old.calls ++ (Absorb vp part 0, r) ∷ []) }
+            × (actor.new ≡ acting actor.old.of actor.old.number (actor.old.calls ++ (Absorb vp part bits, r) ∷ [])
+            (sweep_in (Absorb vp part bits) r ++ actor.old.actions))) }
+        ensures refused { IfOk result
+            (λ r. is_refusal r ≡ true → actor.new.calls ≡ actor.old.calls ++ (Absorb vp part 0, r) ∷ []) }
         ensures fault { OnErr result (actor.new ≡ actor.old) }
         ensures event { ¬ (IsErrOf result CallFault.AbsorbEvent) }
     {
@@ -178,7 +182,8 @@ impl<S: Origin> RecordedBoard<S> {
         requires raises { All (λ l. only_raises l.actions ≡ true) lines.items }
         ensures settled { IfOk result (IsSettled S.start) }
         ensures actors { IfOk result (λ e. map calls_given e.actors.items ≡ map calls_held actors.items) }
-        ensures raises { IfOk result (λ e. AreAbsorbed (4 * self.processors) (map actions_of lines.items) e.history.items e.standing) }
+        ensures raises { IfOk result
+            (λ e. AreAbsorbed (4 * self.processors) (map actions_of lines.items) e.history.items e.standing) }
     {
         let RecordedBoard {
             alloc,

@@ -86,7 +86,8 @@ fn start_actor<'s, E, S: Origin, R: Threads + Wait + Sync, G: Gate + Sync>(
     script: &'s [Step],
 ) -> Result<ActingThread<'s, S>, WorkFault>
     requires new { IsNewActor board.now.name actor }
-    ensures { IfOk result (λ h. (h.promise.board.now ≡ board.now) × (h.promise.number ≡ actor.number) × (h.promise.script.now ≡ script.now)) }
+    ensures { IfOk result (λ h. (h.promise.board.now ≡ board.now) × (h.promise.number ≡ actor.number)
+        × (h.promise.script.now ≡ script.now)) }
 {
     let promise = Acts {
         board,
@@ -125,7 +126,8 @@ fn start_line<'s, E, S: Origin, R: Threads + Wait + Sync, G: Gate + Sync>(
     let started = scope.spawn_with(
         Raises { board, script },
         move || -> Result<(Line, Vec<Raised>), WorkFault>
-            requires { IsSync R.row × IsSync G.row × IsNewLine board.now.name line × IsThere board.now.processors script.now }
+            requires { IsSync R.row × IsSync G.row × IsNewLine board.now.name line
+                × IsThere board.now.processors script.now }
             ensures { IfOk result (λ x. HasRaised board.entry.now.name script.entry.now x.0 x.1.items) }
         { raise(rt, alloc, board, gate, who, line, script) },
     );
@@ -148,7 +150,8 @@ fn start_actors<'s, E, S: Origin, R: Threads + Wait + Sync, G: Gate + Sync>(
     requires new { All (IsNewActor board.now.name) actors.items }
     requires each { vec_len actors ≡ length scripts.now }
     ensures numbers { IfOk result (λ v. map (λ h. h.promise.number) v.items ≡ map (λ a. a.number) actors.items) }
-    ensures scripts { IfOk result (λ v. map {B = TableId × List Step} (λ h. (h.promise.board.now.name, h.promise.script.now)) v.items
+    ensures scripts { IfOk result
+        (λ v. map {B = TableId × List Step} (λ h. (h.promise.board.now.name, h.promise.script.now)) v.items
         ≡ map {B = TableId × List Step} (λ s. (board.now.name, s.items)) scripts.now) }
 {
     let mut threads = Vec::new(alloc);
@@ -180,7 +183,8 @@ fn start_lines<'s, E, S: Origin, R: Threads + Wait + Sync, G: Gate + Sync>(
     requires each { vec_len lines ≡ length scripts.now }
     requires bound { first + length scripts.now ≤ 16 }
     requires there { All (λ (s : Vec (ℕ × ℕ) Global). IsThere board.now.processors s.items) scripts.now }
-    ensures scripts { IfOk result (λ v. map {B = TableId × List (ℕ × ℕ)} (λ h. (h.promise.board.now.name, h.promise.script.now)) v.items
+    ensures scripts { IfOk result
+        (λ v. map {B = TableId × List (ℕ × ℕ)} (λ h. (h.promise.board.now.name, h.promise.script.now)) v.items
         ≡ map {B = TableId × List (ℕ × ℕ)} (λ s. (board.now.name, s.items)) scripts.now) }
 {
     let mut threads = Vec::new(alloc);
@@ -218,7 +222,8 @@ pub(crate) fn run_all<S: Origin, R: Threads + Wait + Sync, G: Gate + Sync>(
     requires each_line { vec_len lines ≡ vec_len scripts.now.lines }
     requires bound { vec_len scripts.now.lines ≤ 16 }
     requires there { All (λ (s : Vec (ℕ × ℕ) Global). IsThere board.now.processors s.items) scripts.now.lines.items }
-    ensures { IfOk result (λ r. HaveRun board.now.name scripts.now.actors.items scripts.now.lines.items actors.items r.0.items r.1.items) }
+    ensures { IfOk result (λ r.
+        HaveRun board.now.name scripts.now.actors.items scripts.now.lines.items actors.items r.0.items r.1.items) }
 {
     let raises = scripts.lines.as_slice();
     match scripts.actors.as_slice() {
@@ -245,7 +250,9 @@ fn run_lines<S: Origin, R: Threads + Wait + Sync, G: Gate + Sync>(
     requires each { vec_len lines ≡ length scripts.now }
     requires bound { length scripts.now ≤ 16 }
     requires there { All (λ (s : Vec (ℕ × ℕ) Global). IsThere board.now.processors s.items) scripts.now }
-    ensures { IfOk result (λ v. AllZip (λ (s : Vec (ℕ × ℕ) Global) (x : Token × Vec Raised Global). HasRaised board.now.name s.items x.0 x.1.items) scripts.now v.items) }
+    ensures { IfOk result (λ v.
+        AllZip (λ (s : Vec (ℕ × ℕ) Global)
+        (x : Token × Vec Raised Global). HasRaised board.now.name s.items x.0 x.1.items) scripts.now v.items) }
 {
     match scripts {
         [own, raises @ ..] => run_with_line(rt, alloc, board, gate, own, raises, lines),
@@ -271,7 +278,8 @@ fn run_with_actor<S: Origin, R: Threads + Wait + Sync, G: Gate + Sync>(
     requires each_line { vec_len lines ≡ length raises.now }
     requires bound { length raises.now ≤ 16 }
     requires there { All (λ (s : Vec (ℕ × ℕ) Global). IsThere board.now.processors s.items) raises.now }
-    ensures { IfOk result (λ r. HaveRun board.now.name (own.now ∷ acts.now) raises.now actors.items r.0.items r.1.items) }
+    ensures { IfOk result (λ r.
+        HaveRun board.now.name (own.now ∷ acts.now) raises.now actors.items r.0.items r.1.items) }
 {
     let Ok(others) = actors.split_off(1) else {
         return Err(WorkFault::Memory);
@@ -315,7 +323,8 @@ fn act_beside<S: Origin, R: Threads + Wait + Sync, G: Gate + Sync>(
         thread::scope_env(),
         rt,
         move |scope| -> Result<(Actor, Vec<Actor>, Vec<(Line, Vec<Raised>)>), WorkFault>
-            requires { IsNewActor board.now.name first × All (IsNewActor board.now.name) others.items × All (IsNewLine board.now.name) lines.items
+            requires { IsNewActor board.now.name first × All (IsNewActor board.now.name) others.items
+                × All (IsNewLine board.now.name) lines.items
                 × (vec_len others ≡ length acts.now) × (vec_len lines ≡ length raises.now) × (length raises.now ≤ 16)
                 × All (λ (s : Vec (ℕ × ℕ) Global). IsThere board.now.processors s.items) raises.now }
             ensures { IfOk result (λ r. HasActed board.entry.now.name first.number own.entry.now.items r.0
@@ -346,7 +355,10 @@ fn run_with_line<S: Origin, R: Threads + Wait + Sync, G: Gate + Sync>(
     requires bound { length raises.now ≤ 15 }
     requires own_there { IsThere board.now.processors own.now.items }
     requires there { All (λ (s : Vec (ℕ × ℕ) Global). IsThere board.now.processors s.items) raises.now }
-    ensures { IfOk result (λ v. AllZip (λ (s : Vec (ℕ × ℕ) Global) (x : Token × Vec Raised Global). HasRaised board.now.name s.items x.0 x.1.items) (own.now ∷ raises.now) v.items) }
+    ensures { IfOk result (λ v.
+        AllZip (λ (s : Vec (ℕ × ℕ) Global)
+        (x : Token × Vec Raised Global). HasRaised board.now.name s.items x.0 x.1.items)
+        (own.now ∷ raises.now) v.items) }
 {
     let Ok(others) = lines.split_off(1) else {
         return Err(WorkFault::Memory);
@@ -380,17 +392,21 @@ fn raise_beside<S: Origin, R: Threads + Wait + Sync, G: Gate + Sync>(
     requires own_there { IsThere board.now.processors own.now.items }
     requires there { All (λ (s : Vec (ℕ × ℕ) Global). IsThere board.now.processors s.items) raises.now }
     ensures { IfOk result (λ r. HasRaised board.now.name own.now.items r.0.0 r.0.1.items
-        × AllZip (λ (s : Vec (ℕ × ℕ) Global) (x : Token × Vec Raised Global). HasRaised board.now.name s.items x.0 x.1.items) raises.now r.1.items) }
+        × AllZip (λ (s : Vec (ℕ × ℕ) Global)
+        (x : Token × Vec Raised Global). HasRaised board.now.name s.items x.0 x.1.items) raises.now r.1.items) }
 {
     thread::scope(
         thread::scope_env(),
         rt,
         move |scope| -> Result<((Line, Vec<Raised>), Vec<(Line, Vec<Raised>)>), WorkFault>
             requires { IsNewLine board.now.name first × All (IsNewLine board.now.name) others.items
-                × (vec_len others ≡ length raises.now) × (length raises.now ≤ 15) × IsThere board.now.processors own.now.items
+                × (vec_len others ≡ length raises.now) × (length raises.now ≤ 15)
+                × IsThere board.now.processors own.now.items
                 × All (λ (s : Vec (ℕ × ℕ) Global). IsThere board.now.processors s.items) raises.now }
             ensures { IfOk result (λ r. HasRaised board.entry.now.name own.entry.now.items r.0.0 r.0.1.items
-                × AllZip (λ (s : Vec (ℕ × ℕ) Global) (x : Token × Vec Raised Global). HasRaised board.entry.now.name s.items x.0 x.1.items) raises.entry.now r.1.items) }
+                × AllZip (λ (s : Vec (ℕ × ℕ) Global)
+                (x : Token × Vec Raised Global). HasRaised board.entry.now.name s.items x.0
+                x.1.items) raises.entry.now r.1.items) }
         {
             let raising = start_lines(rt, alloc, scope, board, gate, 1, others, raises)?;
             let who = Worker::Raises(0);

@@ -44,7 +44,8 @@ pub(crate) fn absorb_all<S: Origin, R: Wait>(
     requires bound { board.now.processors ≤ 64 }
     ensures of { IfOk result (λ a. a.of ≡ actor.of) }
     ensures number { IfOk result (λ a. a.number ≡ actor.number) }
-    ensures calls { IfOk result (λ a. (more : List Call) × (a.calls ≡ actor.calls ++ more) × AreSteps (last_steps board.now.processors) more) }
+    ensures calls { IfOk result
+        (λ a. (more : List Call) × (a.calls ≡ actor.calls ++ more) × AreSteps (last_steps board.now.processors) more) }
 {
     for place in 0..4 * u16::from(board.processors()) {
         board.absorb(rt, &mut actor, (place / 4) as u8, (place % 4) as u8)?;

@@ -48,10 +48,12 @@ pub(crate) fn work<S: Origin, R: Threads + Wait + Sync, G: Gate + Sync>(
     requires bound { setup.now.processors ≤ 64 }
     requires step { has_bad_step setup.now scripts.now ≡ false }
     requires board { board.now.processors ≡ setup.now.processors }
-    requires actors { actors.items ≡ map (new_actor board.now.name) (range_with_len 0 (vec_len scripts.now.actors + 1)) }
+    requires actors { actors.items
+        ≡ map (new_actor board.now.name) (range_with_len 0 (vec_len scripts.now.actors + 1)) }
     requires lines { All (IsNewLine board.now.name) lines.items }
     requires each { vec_len lines ≡ vec_len scripts.now.lines }
-    ensures worked { IfOk result (λ w. HaveWorked board.now.name setup.now scripts.now w.actors.items w.lines.items w.raised.items) }
+    ensures worked { IfOk result
+        (λ w. HaveWorked board.now.name setup.now scripts.now w.actors.items w.lines.items w.raised.items) }
 {
     let Ok(others) = actors.split_off(1) else {
         return Err(WorkFault::Memory);
@@ -99,7 +101,8 @@ pub(crate) fn finish<S: Origin>(
     scripts: &Scripts,
     worked: Worked,
 ) -> Result<CrewEnd, WorkFault>
-    requires worked { HaveWorked board.name setup.now scripts.now worked.actors.items worked.lines.items worked.raised.items }
+    requires worked { HaveWorked board.name setup.now scripts.now worked.actors.items worked.lines.items
+        worked.raised.items }
     requires processors { board.processors ≡ setup.now.processors }
     ensures { IfOk result (IsCrewEnd S.start setup.now scripts.now) }
 {
@@ -117,7 +120,8 @@ pub(crate) fn finish<S: Origin>(
 fn place(setup: &Setup, ended: Ended, raised: Vec<Vec<Raised>>) -> Result<CrewEnd, WorkFault>
     ensures ended { IfOk result (λ c. c.ended ≡ ended) }
     ensures raised { IfOk result (λ c. c.raised ≡ raised) }
-    ensures placed { IfOk result (λ _. InPlace (length setup.now.events.items) (4 * setup.now.processors) ended.history.items) }
+    ensures placed { IfOk result
+        (λ _. InPlace (length setup.now.events.items) (4 * setup.now.processors) ended.history.items) }
     ensures clear { IfOk result (λ _. All (λ word. word ≡ 0) ended.standing) }
 {
     let ends = 4 * usize::from(setup.processors);

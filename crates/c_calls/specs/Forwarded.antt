@@ -35,5 +35,6 @@ abbrev pub IsForwardedOn : ℕ → Option AnyBoard → Option AnyBoard → CForw
 IsForwardedOn vp None after forwarded reply = (after ≡ None) × (forwarded ≡ no_forwarded) × (reply ≡ fault_to_c Closed)
 IsForwardedOn vp (Some board) (Some after) forwarded reply =
     IsForwardedBy vp board after forwarded reply
-    ⊎ ((processors (state_in board) ≤ vp) × (after ≡ board) × (forwarded ≡ no_forwarded) × (reply ≡ reply_to_c (Refused NoSuchProcessor) 0))
+    ⊎ ((processors (state_in board) ≤ vp) × (after ≡ board) × (forwarded ≡ no_forwarded)
+    × (reply ≡ reply_to_c (Refused NoSuchProcessor) 0))
 IsForwardedOn vp (Some board) None forwarded reply = ⊥

@@ -16,9 +16,11 @@ use Rattle.c_calls.specs.declared.inspect_parts.CTimer.{CTimer}
 abbrev pub words_of : Vectors → List ℕ
 words_of vectors = word_of vectors 0 ∷ word_of vectors 1 ∷ word_of vectors 2 ∷ word_of vectors 3 ∷ []
 
--- PPR (SDM volume 3, "Interrupt, Task, and Processor Priority"): TPR, or the class of the greatest vector in service where that is higher
+-- PPR (SDM volume 3, "Interrupt, Task, and Processor Priority"): TPR, or the class of the greatest vector in service
+-- where that is higher
 abbrev pub processor_priority : Apic → ℕ
-processor_priority a = if nat_lt (class a.task_priority) (in_service_class a) then in_service_class a * 16 else a.task_priority
+processor_priority a =
+    if nat_lt (class a.task_priority) (in_service_class a) then in_service_class a * 16 else a.task_priority
 
 abbrev pub lapic_to_c : Apic → CLapic
 lapic_to_c a = record {
@@ -69,7 +71,8 @@ no_timer = record { is_due = false; config = 0; count = 0; low = 0; high = 0 }
 
 -- the timer of a processor with an index, if there is one
 abbrev pub timer_on : State → ℕ → ℕ → CTimer
-timer_on s vp index = if nat_lt vp (processors s) && nat_lt index 4 then timer_to_c (timer_in (bank_of s) (vp, index)) else no_timer
+timer_on s vp index =
+    if nat_lt vp (processors s) && nat_lt index 4 then timer_to_c (timer_in (bank_of s) (vp, index)) else no_timer
 
 abbrev pub timer_at : Option AnyBoard → ℕ → ℕ → CTimer
 timer_at None vp index = no_timer

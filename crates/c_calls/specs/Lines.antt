@@ -49,12 +49,17 @@ with_bits bits (s, reply, notices) = (s, record reply { value = bits }, notices)
 
 -- a board of either kind, and its notices, are those of an outcome, without late ones, and no live page was accessed
 abbrev pub IsApart : State × CReply × List Notice → AnyBoard → Option AnyBoard → CReply → Type 0
-IsApart outcome before (Some after) reply = ((state_in after, reply, notices_in after) ≡ outcome) × (pages_in after ≡ pages_in before) × (late_in after ≡ [])
+IsApart outcome before (Some after) reply =
+    ((state_in after, reply, notices_in after) ≡ outcome) × (pages_in after ≡ pages_in before) × (late_in after ≡ [])
 IsApart outcome before None reply = ⊥
 
 -- the board absorbed what the line swept: without a board or without a line nothing changes
-abbrev pub IsAbsorbed : ℕ → ℕ → Option AnyBoard → Option LineModel → Option AnyBoard → Option LineModel → CReply → Type 0
-IsAbsorbed vp part (Some board) (Some line) board_after line_after reply = (bits : ℕ) × HasSwept board line vp part bits line_after
+abbrev pub IsAbsorbed : ℕ → ℕ → Option AnyBoard → Option LineModel → Option AnyBoard → Option LineModel → CReply
+    → Type 0
+IsAbsorbed vp part (Some board) (Some line) board_after line_after reply =
+    (bits : ℕ) × HasSwept board line vp part bits line_after
     × IsApart (with_bits bits (outcome_to_c (step (state_in board) (Absorb vp part bits)))) board board_after reply
-IsAbsorbed vp part None line board_after line_after reply = (board_after ≡ None) × (line_after ≡ line) × (reply ≡ fault_to_c Closed)
-IsAbsorbed vp part (Some board) None board_after line_after reply = (board_after ≡ Some board) × (line_after ≡ None) × (reply ≡ fault_to_c NoLine)
+IsAbsorbed vp part None line board_after line_after reply =
+    (board_after ≡ None) × (line_after ≡ line) × (reply ≡ fault_to_c Closed)
+IsAbsorbed vp part (Some board) None board_after line_after reply =
+    (board_after ≡ Some board) × (line_after ≡ None) × (reply ≡ fault_to_c NoLine)

@@ -56,23 +56,30 @@ pub record MarksOwed (word : ℕ) (owed : List Bool) : Type 0 where
 
 -- a board with live pages performs an event
 abbrev pub IsActedOn : LiveWithNotices → Event → LiveWithNotices → CLiveReply → Type 0
-IsActedOn board event after result = (reply : Reply) × (owed : List Bool) × Acts board.live event after.live reply owed after.notices after.late
-    × (result.reply ≡ reply_to_c reply (length after.notices)) × (result.late ≡ length after.late) × MarksOwed result.owed owed
+IsActedOn board event after result =
+    (reply : Reply) × (owed : List Bool) × Acts board.live event after.live reply owed after.notices after.late
+    × (result.reply ≡ reply_to_c reply (length after.notices)) × (result.late ≡ length after.late)
+    × MarksOwed result.owed owed
 
--- a call performs an event on the board of a handle, which may have live pages: without a board or without an event nothing changes
+-- a call performs an event on the board of a handle, which may have live pages: without a board or without an event
+-- nothing changes
 abbrev pub IsActedLive : Option Event → Option AnyBoard → Option AnyBoard → CLiveReply → Type 0
 IsActedLive event None after result = (after ≡ None) × (result ≡ alone (fault_to_c Closed))
 IsActedLive None (Some board) after result = (after ≡ Some board) × (result ≡ alone (fault_to_c NoEvent))
-IsActedLive (Some event) (Some (Plain board)) after result = IsOutcome (outcome_to_c (step board.board.state event)) after result.reply × (result ≡ alone result.reply)
+IsActedLive (Some event) (Some (Plain board)) after result =
+    IsOutcome (outcome_to_c (step board.board.state event)) after result.reply × (result ≡ alone result.reply)
 IsActedLive (Some event) (Some (Live board)) (Some (Live after)) result = IsActedOn board event after result
 IsActedLive (Some event) (Some (Live board)) after result = ⊥
 
--- a call looks at live pages of a processor, by a relation of a board before and after it: without live pages or without the processor
+-- a call looks at live pages of a processor, by a relation of a board before and after it: without live pages or
+-- without the processor
 -- nothing changes
-abbrev pub IsLookedAt : (ℕ → LiveModel → LiveModel → List Notice → Type 0) → ℕ → Option AnyBoard → Option AnyBoard → CReply → Type 0
+abbrev pub IsLookedAt : (ℕ → LiveModel → LiveModel → List Notice → Type 0) → ℕ → Option AnyBoard → Option AnyBoard
+    → CReply → Type 0
 IsLookedAt Looks vp None after reply = (after ≡ None) × (reply ≡ fault_to_c Closed)
 IsLookedAt Looks vp (Some (Plain board)) after reply = (after ≡ Some (Plain board)) × (reply ≡ fault_to_c NotLive)
 IsLookedAt Looks vp (Some (Live board)) (Some (Live after)) reply =
-    ((vp < processors board.live.board.state) × Looks vp board.live after.live after.notices × (after.late ≡ []) × (reply ≡ reply_to_c Done (length after.notices)))
+    ((vp < processors board.live.board.state) × Looks vp board.live after.live after.notices × (after.late ≡ [])
+    × (reply ≡ reply_to_c Done (length after.notices)))
     ⊎ ((processors board.live.board.state ≤ vp) × (after ≡ board) × (reply ≡ reply_to_c (Refused NoSuchProcessor) 0))
 IsLookedAt Looks vp (Some (Live board)) after reply = ⊥

@@ -35,11 +35,14 @@ vector_or_0 next = option_map_or (λ vector. vector) next 0
 
 -- the next vector of a processor
 abbrev pub next_vector_of : Option AnyBoard → ℕ → ℕ
-next_vector_of board vp = if nat_lt vp 64 then summary_or 0 (λ values. vector_or_0 (slice_index_or values.nexts vp None)) board else 0
+next_vector_of board vp =
+    if nat_lt vp 64 then summary_or 0 (λ values. vector_or_0 (slice_index_or values.nexts vp None)) board else 0
 
 -- whether a vector is auto-EOI
 abbrev pub is_auto_eoi_of : Option AnyBoard → ℕ → ℕ → Bool
-is_auto_eoi_of board vp vector = if nat_lt vp 64 && not (nat_lt vector 16) then summary_or false (λ values. set.contains (slice_index_or values.autos vp set.empty) vector) board else false
+is_auto_eoi_of board vp vector =
+    if nat_lt vp 64 && not (nat_lt vector 16)
+    then summary_or false (λ values. set.contains (slice_index_or values.autos vp set.empty) vector) board else false
 
 -- which page a guest sees
 abbrev pub owner_to_c : Owner → COwner
@@ -59,16 +62,20 @@ overlay_to_c (Some (page, owner)) = record { owner = owner_to_c owner; page = pa
 
 abbrev pub IsNextOverlayOf : Option AnyBoard → ℕ → COverlay → Type 0
 IsNextOverlayOf None from overlay = overlay ≡ overlay_to_c None
-IsNextOverlayOf (Some board) from overlay = (next : Option (ℕ × Owner)) × IsNextOverlay (space_of (state_in board)) from next × (overlay ≡ overlay_to_c next)
+IsNextOverlayOf (Some board) from overlay =
+    (next : Option (ℕ × Owner)) × IsNextOverlay (space_of (state_in board)) from next × (overlay ≡ overlay_to_c next)
 
 -- how many messages are queued for a source
 abbrev pub queue_length_of : Option AnyBoard → ℕ → ℕ → ℕ
-queue_length_of board vp sint = if nat_lt vp 64 && nat_lt sint 16 then summary_or 0 (λ values. slice_index_or values.queued (source_number vp sint) 0) board else 0
+queue_length_of board vp sint =
+    if nat_lt vp 64 && nat_lt sint 16
+    then summary_or 0 (λ values. slice_index_or values.queued (source_number vp sint) 0) board else 0
 
 -- the earliest timer, with its deadline in two halves
 abbrev pub deadline_to_c : Option (ℕ × (ℕ × ℕ)) → CDeadline
 deadline_to_c None = record { is_due = false; vp = 0; timer = 0; low = 0; high = 0 }
-deadline_to_c (Some (due, (vp, index))) = record { is_due = true; vp = vp; timer = index; low = due % 2 ^ 64; high = due / 2 ^ 64 }
+deadline_to_c (Some (due, (vp, index))) =
+    record { is_due = true; vp = vp; timer = index; low = due % 2 ^ 64; high = due / 2 ^ 64 }
 
 abbrev pub earliest_of : Option AnyBoard → CDeadline
 earliest_of board = deadline_to_c (summary_or None (λ values. values.earliest) board)

@@ -8,7 +8,8 @@ use Rattle.text_restore.specs.Images.{IsImage}
 
 -- the board of a newly opened board, without notices
 abbrev pub IsNewBoard : ℕ → ℕ → Ticket → Option AnyBoard → Type 0
-IsNewBoard processors pages first_ticket (Some (Plain board)) = (board.board.state ≡ opened processors pages first_ticket) × (board.notices ≡ [])
+IsNewBoard processors pages first_ticket (Some (Plain board)) =
+    (board.board.state ≡ opened processors pages first_ticket) × (board.notices ≡ [])
 IsNewBoard processors pages first_ticket (Some (Live board)) = ⊥
 IsNewBoard processors pages first_ticket None = ⊥
 

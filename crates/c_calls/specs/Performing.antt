@@ -22,16 +22,19 @@ IsOutcome outcome (Some (Plain board)) reply = (board.board.state, reply, board.
 IsOutcome outcome (Some (Live board)) reply = ⊥
 IsOutcome outcome None reply = ⊥
 
--- a call performs an event on the board of a handle: without a board, with one that has live pages, or without an event, nothing changes
+-- a call performs an event on the board of a handle: without a board, with one that has live pages, or without an
+-- event, nothing changes
 abbrev pub IsPerformed : Option Event → Option AnyBoard → Option AnyBoard → CReply → Type 0
 IsPerformed event None after reply = (after ≡ None) × (reply ≡ fault_to_c Closed)
 IsPerformed event (Some (Live board)) after reply = (after ≡ Some (Live board)) × (reply ≡ fault_to_c IsLive)
 IsPerformed None (Some (Plain board)) after reply = (after ≡ Some (Plain board)) × (reply ≡ fault_to_c NoEvent)
-IsPerformed (Some event) (Some (Plain board)) after reply = IsOutcome (outcome_to_c (step board.board.state event)) after reply
+IsPerformed (Some event) (Some (Plain board)) after reply =
+    IsOutcome (outcome_to_c (step board.board.state event)) after reply
 
 -- a message has at most 240 bytes, a store at most 8, and a vector is at least 16; else there is no event
 abbrev pub post_from_c : ℕ → ℕ → List ℕ → Option Event
-post_from_c port message_type payload = if nat_lt 240 (length payload) then None else Some (Post port message_type (record { items = payload }))
+post_from_c port message_type payload =
+    if nat_lt 240 (length payload) then None else Some (Post port message_type (record { items = payload }))
 
 abbrev pub store_from_c : ℕ → List ℕ → Option Event
 store_from_c address bytes = if nat_lt 8 (length bytes) then None else Some (Store address (record { items = bytes }))

@@ -38,7 +38,8 @@ AreLines (Some lines) room_before room_after count = (count ≡ length lines) ×
 AreLines None room_before room_after count = ⊥
 
 abbrev pub IsReplay : List ℕ → List ℕ → List ℕ → CEnd → Type 0
-IsReplay script room_before room_after end = IsText script room_before room_after end ⊎ IsNotWritten room_before room_after end
+IsReplay script room_before room_after end =
+    IsText script room_before room_after end ⊎ IsNotWritten room_before room_after end
 
 -- the image of a state: its length, and as much of it as fits
 pub record IsWrittenImage (s : State) (room_before room_after : List ℕ) (end : CEnd) : Type 0 where
@@ -57,4 +58,5 @@ pub record IsUnsaved (reason : ℕ) (room_before room_after : List ℕ) (end : C
 -- the image of an open board was written, or nothing, for lack of memory; nothing of a closed one
 abbrev pub IsSaved : Option AnyBoard → List ℕ → List ℕ → CEnd → Type 0
 IsSaved None room_before room_after end = IsUnsaved 4 room_before room_after end
-IsSaved (Some board) room_before room_after end = IsWrittenImage (state_in board) room_before room_after end ⊎ IsUnsaved 2 room_before room_after end
+IsSaved (Some board) room_before room_after end =
+    IsWrittenImage (state_in board) room_before room_after end ⊎ IsUnsaved 2 room_before room_after end

@@ -28,7 +28,8 @@ pub record IsView (board : Option AnyBoard) (view : CView) : Type 0 where
   pub nexts : AreNexts 8 board view.next
   pub earliest : view.earliest ≡ earliest_of board
 
--- bit p of a word is set iff the next vector of processor p differs, bit 8 iff the earliest deadline does, and no other bit
+-- bit p of a word is set iff the next vector of processor p differs, bit 8 iff the earliest deadline does, and no
+-- other bit
 pub record MarksView (word : ℕ) (old new : CView) : Type 0 where
   pub nexts : MarkNexts 8 word old.next new.next
   pub earliest : bit_at word 8 ≡ 1 ↔ (old.earliest ≢ new.earliest)

@@ -30,14 +30,16 @@ pub extern "C" fn synicboard_perform_all(
     replies: &mut [CReply],
     notices: &mut [CNotice],
 ) -> CBatch
-    ensures performed { IsBatch handle.old.board (take result.done events.now) handle.new.board replies.old replies.new notices.old notices.new result }
+    ensures performed { IsBatch handle.old.board
+        (take result.done events.now) handle.new.board replies.old replies.new notices.old notices.new result }
     ensures kinds { is_among (0 ∷ 4 ∷ 8 ∷ 9 ∷ 14 ∷ []) result.end ≡ true }
     ensures closed { (result.end ≡ 4) ↔ (handle.old.board ≡ None) }
     ensures live { (result.end ≡ 14) ↔ (is_live handle.old.board ≡ true) }
     ensures within { result.done ≤ length events.now }
     ensures all { result.end ≡ 0 → result.done ≡ length events.now }
     ensures none { result.end ≡ 8 → IsNotAnEvent (slice_get events.now result.done) }
-    ensures room_first { result.end ≡ 8 → (result.done < length replies.old) × (result.emitted + 276 ≤ length notices.old) }
+    ensures room_first { result.end ≡ 8 → (result.done < length replies.old)
+        × (result.emitted + 276 ≤ length notices.old) }
     ensures room { result.end ≡ 9 → (length replies.old ≡ result.done) ⊎ (length notices.old < result.emitted + 276) }
 {
     match handle.board_mut() {
@@ -53,13 +55,15 @@ fn perform_all_in(
     replies: &mut [CReply],
     notices: &mut [CNotice],
 ) -> CBatch
-    ensures performed { IsBatch (Some board.old) (take result.done events.now) (Some board.new) replies.old replies.new notices.old notices.new result }
+    ensures performed { IsBatch (Some board.old) (take result.done events.now)
+        (Some board.new) replies.old replies.new notices.old notices.new result }
     ensures kinds { is_among (0 ∷ 8 ∷ 9 ∷ 14 ∷ []) result.end ≡ true }
     ensures live { (result.end ≡ 14) ↔ (is_live (Some board.old) ≡ true) }
     ensures within { result.done ≤ length events.now }
     ensures all { result.end ≡ 0 → result.done ≡ length events.now }
     ensures none { result.end ≡ 8 → IsNotAnEvent (slice_get events.now result.done) }
-    ensures room_first { result.end ≡ 8 → (result.done < length replies.old) × (result.emitted + 276 ≤ length notices.old) }
+    ensures room_first { result.end ≡ 8 → (result.done < length replies.old)
+        × (result.emitted + 276 ≤ length notices.old) }
     ensures room { result.end ≡ 9 → (length replies.old ≡ result.done) ⊎ (length notices.old < result.emitted + 276) }
 {
     let AnyBoard::Plain(board) = board else {

@@ -28,7 +28,8 @@ pub extern "C" fn synicboard_open_message_port(
     sint: u8,
     buffers: u8,
 ) -> CReply
-    ensures { IsPerformed (Some (event.OpenPort port vp sint (shape.Messages buffers))) handle.old.board handle.new.board result }
+    ensures { IsPerformed (Some (event.OpenPort port vp sint (shape.Messages buffers))) handle.old.board
+        handle.new.board result }
 {
     perform_on(
         handle,
@@ -51,7 +52,8 @@ pub extern "C" fn synicboard_open_event_port(
     base: u16,
     count: u16,
 ) -> CReply
-    ensures { IsPerformed (Some (event.OpenPort port vp sint (shape.Flags base count))) handle.old.board handle.new.board result }
+    ensures { IsPerformed (Some (event.OpenPort port vp sint (shape.Flags base count))) handle.old.board
+        handle.new.board result }
 {
     perform_on(
         handle,

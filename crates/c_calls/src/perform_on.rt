@@ -6,7 +6,8 @@ use c_handles::{AnyBoard, BoardHandle};
 use c_terms::{CReply, Fault, fault_to_c, reply_to_c};
 use synic_board::Event;
 
-/// Performs an event on the board of a handle, if it is open and has no live pages. Inlined in each call, where the kind
+/// Performs an event on the board of a handle, if it is open and has no live pages. Inlined in each
+/// call, where the kind
 /// of the event is a constant.
 #[inline(always)]
 pub(crate) fn perform_on(handle: &mut BoardHandle, event: &Event) -> CReply

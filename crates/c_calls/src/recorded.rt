@@ -88,7 +88,8 @@ pub extern "C" fn synicboard_recorded_act(
     plain: &CEvent,
     room: &mut [CNotice],
 ) -> CReply
-    ensures { IsActed actor (event_from_c plain.now) (recorded_of handle.old) (recorded_of handle.new) result (buffer room.old room.new) }
+    ensures { IsActed actor (event_from_c plain.now) (recorded_of handle.old) (recorded_of handle.new) result
+        (buffer room.old room.new) }
 {
     act_on(&mut handle.board, &mut handle.history, actor, plain, room)
 }
@@ -103,7 +104,8 @@ fn act_on(
 ) -> CReply
     requires { LeadsTo history.old.history board.old.board }
     ensures leads { LeadsTo history.new.history board.new.board }
-    ensures acted { IsActed actor (event_from_c plain.now) (both board.old.board history.old.history) (both board.new.board history.new.history) result (buffer room.old room.new) }
+    ensures acted { IsActed actor (event_from_c plain.now) (both board.old.board history.old.history)
+        (both board.new.board history.new.history) result (buffer room.old room.new) }
 {
     let (Some(board), Some(history)) = (board.board_mut(), history.history_mut()) else {
         return fault_to_c(Fault::Closed);
@@ -121,7 +123,8 @@ fn act_in(
 ) -> CReply
     requires { LeadsTo (Some history.old) (Some board.old) }
     ensures leads { LeadsTo (Some history.new) (Some board.new) }
-    ensures acted { IsActed actor (event_from_c plain.now) (both (Some board.old) (Some history.old)) (both (Some board.new) (Some history.new)) result (buffer room.old room.new) }
+    ensures acted { IsActed actor (event_from_c plain.now) (both (Some board.old) (Some history.old))
+        (both (Some board.new) (Some history.new)) result (buffer room.old room.new) }
 {
     let AnyBoard::Plain(board) = board else {
         unreachable!()
@@ -151,7 +154,8 @@ pub extern "C" fn synicboard_recorded_absorb(
     part: u8,
     room: &mut [CNotice],
 ) -> CReply
-    ensures { IsActedAbsorb (absorb_by actor vp part) (recorded_of handle.old, line.old.line) (recorded_of handle.new, line.new.line) result (buffer room.old room.new) }
+    ensures { IsActedAbsorb (absorb_by actor vp part) (recorded_of handle.old, line.old.line)
+        (recorded_of handle.new, line.new.line) result (buffer room.old room.new) }
 {
     absorb_on(
         &mut handle.board,
@@ -176,7 +180,9 @@ fn absorb_on(
 ) -> CReply
     requires { LeadsTo history.old.history board.old.board }
     ensures leads { LeadsTo history.new.history board.new.board }
-    ensures absorbed { IsActedAbsorb (absorb_by actor vp part) (both board.old.board history.old.history, line.old.line) (both board.new.board history.new.history, line.new.line) result (buffer room.old room.new) }
+    ensures absorbed { IsActedAbsorb (absorb_by actor vp part)
+        (both board.old.board history.old.history, line.old.line)
+        (both board.new.board history.new.history, line.new.line) result (buffer room.old room.new) }
 {
     let (Some(board), Some(history)) = (board.board_mut(), history.history_mut()) else {
         return fault_to_c(Fault::Closed);
@@ -199,7 +205,9 @@ fn absorb_in(
 ) -> CReply
     requires { LeadsTo (Some history.old) (Some board.old) }
     ensures leads { LeadsTo (Some history.new) (Some board.new) }
-    ensures absorbed { IsActedAbsorb (absorb_by actor vp part) (both (Some board.old) (Some history.old), Some line.old) (both (Some board.new) (Some history.new), Some line.new) result (buffer room.old room.new) }
+    ensures absorbed { IsActedAbsorb (absorb_by actor vp part)
+        (both (Some board.old) (Some history.old), Some line.old)
+        (both (Some board.new) (Some history.new), Some line.new) result (buffer room.old room.new) }
 {
     let AnyBoard::Plain(board) = board else {
         unreachable!()

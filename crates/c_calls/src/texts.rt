@@ -125,7 +125,9 @@ pub extern "C" fn synicboard_format_entry(
     room: &mut [u8],
 ) -> CEnd
     ensures kinds { is_among (0 ∷ 2 ∷ 10 ∷ []) result.kind ≡ true }
-    ensures emitted { result.kind ≡ 0 → AreLines (entry_text actor (event_from_c event.now) (reply_from_c reply.now)) room.old room.new result.length }
+    ensures emitted { result.kind ≡ 0
+        → AreLines (entry_text actor (event_from_c event.now) (reply_from_c reply.now)) room.old room.new
+        result.length }
     ensures event { (result.line ≡ 1) ↔ (event_from_c event.now ≡ None) }
     ensures reply { (result.line ≡ 2) ↔ ((event_from_c event.now ≢ None) × (reply_from_c reply.now ≡ None)) }
     ensures line { (result.kind ≡ 10) ↔ (result.line ≢ 0) }

@@ -13,7 +13,8 @@ module _ {A : Type 0} where
       let r = last-replicate ys x t n tail in
       ((λ i. head i ∷ r.0 i), r.1)
 
-  pub kept : (first whole rest all : List A) (x t : A) (m n k : ℕ) → first ≡ replicate m t → whole ≡ replicate k t → k ≡ suc n → whole ≡ rest ++ x ∷ [] → all ≡ first ++ rest →
+  pub kept : (first whole rest all : List A) (x t : A) (m n k : ℕ) → first ≡ replicate m t → whole ≡ replicate k t
+      → k ≡ suc n → whole ≡ rest ++ x ∷ [] → all ≡ first ++ rest →
       (all ≡ replicate (m + n) t) × (x ≡ t)
   kept first whole rest all x t m n k some others more split joined =
       let r = last-replicate rest x t n (sym split ∙ others ∙ ap (λ j. replicate j t) more) in

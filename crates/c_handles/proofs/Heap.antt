@@ -23,6 +23,7 @@ Z-laws = arg_laws (bare (layout heap.the_row)) no heap.the_row heap_laws.the_row
 abbrev pub heap_drops : Dict
 heap_drops = impl (heap_drop.symbol ∷ []) (tcons (layout Z) tnil) dnil
 
-pub heap_glue : {M : Type 1} (𝓤 : Ura M) (𝓛 : Logic 𝓤) (𝓜 : Model 𝓤 𝓛.H) (𝓡 : Running 𝓤 𝓛.H 𝓜) → Wired 𝓡.env heap_drop.code → Met 𝓛 𝓜 𝓡 𝓡.env Z heap_drops
+pub heap_glue : {M : Type 1} (𝓤 : Ura M) (𝓛 : Logic 𝓤) (𝓜 : Model 𝓤 𝓛.H) (𝓡 : Running 𝓤 𝓛.H 𝓜)
+    → Wired 𝓡.env heap_drop.code → Met 𝓛 𝓜 𝓡 𝓡.env Z heap_drops
 unfolding code
 heap_glue {M} 𝓤 𝓛 𝓜 𝓡 wired = glues heap_drop.symbol 𝓡.env wired Z Z-laws M 𝓤 𝓛 𝓜 𝓡

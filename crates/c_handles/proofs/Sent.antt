@@ -21,7 +21,8 @@ lies : (R : RattleType) → IsSend R → (p : Ptr) (x : R.Denot) → Keyless (li
 lies R s (block_ptr b o) x = part_keyless R s full_share x b o
 lies R s null_ptr x = tt
 
-pub held_keyless : (R : RattleType) → IsSend R → (is_open : Bool) (at : Ptr) (x : Option R.Denot) → Keyless (owned R is_open at x)
+pub held_keyless : (R : RattleType) → IsSend R → (is_open : Bool) (at : Ptr) (x : Option R.Denot)
+    → Keyless (owned R is_open at x)
 held_keyless R s true at (Some x) = (lies R s at x, frees.frees heap (bare (lone R.mir)) at)
 held_keyless R s true at None = tt
 held_keyless R s false at (Some x) = tt

@@ -1,4 +1,5 @@
--- A local APIC outside the board: it takes, and ends at once, each vector that is requested at a processor of the board.
+-- A local APIC outside the board: it takes, and ends at once, each vector that is requested at a processor of the
+-- board.
 use Rattle.std.specs.Prelude.{◌≡◌, Bool, true, false, List, [], ◌∷◌, if◌then◌else◌}
 use Rattle.std.specs.FinSet as set
 use Rattle.board_terms.specs.Quantities.{Processor}
@@ -29,7 +30,8 @@ takes_and_ends p (false ∷ autos) = Take p ∷ Write p (number_of_register Eoi)
 
 -- a run of such events leads from one state to another, and emits no notice
 abbrev pub AreTakenAndEnded : Processor → State → State → Type 0
-AreTakenAndEnded p s now = (autos : List Bool) × ((run_of s (takes_and_ends p autos)).0 ≡ now) × ((run_of s (takes_and_ends p autos)).2 ≡ [])
+AreTakenAndEnded p s now =
+    (autos : List Bool) × ((run_of s (takes_and_ends p autos)).0 ≡ now) × ((run_of s (takes_and_ends p autos)).2 ≡ [])
 
 -- a processor forwards its vectors; nothing else changes
 pub record IsForwarded (s : State) (p : Processor) (now : State) (forwarded : Forwarded) : Type 0 where

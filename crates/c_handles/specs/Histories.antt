@@ -15,7 +15,8 @@ pub record HistoryModel : Type 0 where
   pub entries : List Entry
 
 abbrev pub history_model : ℕ → ℕ → ℕ → List Entry → HistoryModel
-history_model processors pages first_ticket entries = record { processors = processors; pages = pages; first_ticket = first_ticket; entries = entries }
+history_model processors pages first_ticket entries =
+    record { processors = processors; pages = pages; first_ticket = first_ticket; entries = entries }
 
 -- the state in which it starts, and the state to which it leads
 abbrev pub start_of : HistoryModel → State
@@ -26,4 +27,5 @@ end_of h = leads_to (start_of h) h.entries
 
 -- a history with one more entry: an actor, its event, and the reply
 abbrev pub with_entry : HistoryModel → ℕ → Event → Reply → HistoryModel
-with_entry h actor event reply = history_model h.processors h.pages h.first_ticket (h.entries ++ entry actor event reply ∷ [])
+with_entry h actor event reply =
+    history_model h.processors h.pages h.first_ticket (h.entries ++ entry actor event reply ∷ [])

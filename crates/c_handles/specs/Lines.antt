@@ -30,5 +30,6 @@ has_part processors line vp part = (nat_lt vp processors && nat_lt vp line.words
 
 -- a line swept that part for a board of that many processors, if both have it, and took those bits
 abbrev pub IsSwept : ℕ → LineModel → ℕ → ℕ → ℕ → LineModel → Type 0
-IsSwept processors line vp part bits after = (after ≡ (if has_part processors line vp part then with_step line (sweep_of vp part bits) else line))
+IsSwept processors line vp part bits after =
+    (after ≡ (if has_part processors line vp part then with_step line (sweep_of vp part bits) else line))
     × (has_part processors line vp part ≡ false → bits ≡ 0)

@@ -25,5 +25,6 @@ recorded_of h = both h.board.board h.history.history
 -- a newly opened board, without notices, with an empty history
 abbrev pub IsNewlyRecorded : ℕ → ℕ → ℕ → Option Recorded → Type 0
 IsNewlyRecorded processors pages first_ticket None = ⊥
-IsNewlyRecorded processors pages first_ticket (Some r) = (r.board.board.state ≡ opened processors pages first_ticket) × (r.board.notices ≡ [])
+IsNewlyRecorded processors pages first_ticket (Some r) =
+    (r.board.board.state ≡ opened processors pages first_ticket) × (r.board.notices ≡ [])
     × (r.history ≡ history_model processors pages first_ticket [])

@@ -42,7 +42,8 @@ impl AnyBoard {
 
     /// Performs `Event::Absorb`, which accesses no page.
     pub fn absorb(&mut self, vp: u8, part: u8, bits: u64) -> Reply
-        ensures performs { Performs (board_in self.old) (Absorb vp part bits) (board_in self.new) result (notices_in self.new) }
+        ensures performs { Performs (board_in self.old) (Absorb vp part bits) (board_in self.new) result
+            (notices_in self.new) }
         ensures pages { pages_in self.new ≡ pages_in self.old }
         ensures late { late_in self.new ≡ [] }
     {

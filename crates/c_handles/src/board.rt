@@ -71,7 +71,8 @@ impl BoardWithNotices {
     #[inline(always)]
     pub fn post(&mut self, port: u8, kind: u32, payload: &[u8]) -> Reply
         requires { length payload.now ≤ 240 }
-        ensures performs { Performs self.old.board (Post port kind (record { items = payload.now })) self.new.board result self.new.notices }
+        ensures performs { Performs self.old.board
+            (Post port kind (record { items = payload.now })) self.new.board result self.new.notices }
     {
         self.board.post(port, kind, payload, &mut self.notices)
     }
@@ -80,7 +81,8 @@ impl BoardWithNotices {
     /// no bytes or more than 8 are refused with `BadLength`.
     #[inline(always)]
     pub fn store(&mut self, address: u64, bytes: &[u8]) -> Reply
-        ensures performs { Performs self.old.board (Store address (record { items = bytes.now })) self.new.board result self.new.notices }
+        ensures performs { Performs self.old.board
+            (Store address (record { items = bytes.now })) self.new.board result self.new.notices }
     {
         self.board.store(address, bytes, &mut self.notices)
     }

@@ -93,7 +93,8 @@ impl AnyBoard {
 
     /// Performs a write of EOI, which accesses no page.
     fn end(&mut self, vp: Vp) -> Reply
-        ensures performs { Performs (board_in self.old) (Write vp (number_of_register Eoi) 0) (board_in self.new) result (notices_in self.new) }
+        ensures performs { Performs (board_in self.old) (Write vp (number_of_register Eoi) 0)
+            (board_in self.new) result (notices_in self.new) }
         ensures pages { pages_in self.new ≡ pages_in self.old }
         ensures late { late_in self.new ≡ [] }
     {

@@ -33,7 +33,8 @@ impl Model for History {
 
     ghost view = { λ h. history_model h.processors h.pages h.first_ticket h.log.entries };
 
-    ghost invariant = { λ h. AreSizes h.processors h.pages × IsLegal (opened h.processors h.pages h.first_ticket) h.log.entries };
+    ghost invariant = { λ h. AreSizes h.processors h.pages
+        × IsLegal (opened h.processors h.pages h.first_ticket) h.log.entries };
 }
 
 impl History {
@@ -98,7 +99,8 @@ impl History {
         event: &Event,
     ) -> Result<Reply, AllocError>
         requires { board.old.board.state ≡ end_of self.old }
-        ensures performed { IfOk result (λ reply. Performs board.old.board event.now board.new.board reply board.new.notices) }
+        ensures performed { IfOk result
+            (λ reply. Performs board.old.board event.now board.new.board reply board.new.notices) }
         ensures most { IfOk result (λ _. length board.new.notices ≤ 276) }
         ensures entered { IfOk result (λ reply. self.new ≡ with_entry self.old actor event.now reply) }
         ensures leads { board.new.board.state ≡ end_of self.new }
@@ -124,7 +126,8 @@ impl History {
     ) -> Result<(u64, Reply), AllocError>
         requires { board.old.board.state ≡ end_of self.old }
         ensures swept { IfOk result (λ r. IsSwept (processors board.old.board.state) line.old vp part r.0 line.new) }
-        ensures performed { IfOk result (λ r. Performs board.old.board (Absorb vp part r.0) board.new.board r.1 board.new.notices) }
+        ensures performed { IfOk result
+            (λ r. Performs board.old.board (Absorb vp part r.0) board.new.board r.1 board.new.notices) }
         ensures most { IfOk result (λ _. length board.new.notices ≤ 276) }
         ensures entered { IfOk result (λ r. self.new ≡ with_entry self.old actor (Absorb vp part r.0) r.1) }
         ensures leads { board.new.board.state ≡ end_of self.new }

@@ -40,7 +40,8 @@ impl Model for OwnedLine {
 
     ghost view = { λ h. line_model (arc_value h.words) h.line.actions (vec_len h.spare) };
 
-    ghost invariant = { λ h. (h.line.of ≡ (arc_value h.words).name) × (h.spare.items ≡ replicate (vec_len h.spare) (token (arc_value h.words).name [])) };
+    ghost invariant = { λ h. (h.line.of ≡ (arc_value h.words).name)
+        × (h.spare.items ≡ replicate (vec_len h.spare) (token (arc_value h.words).name [])) };
 }
 
 impl OwnedLine {

@@ -30,12 +30,14 @@ empty d = record { board = d; replies = []; notices = [] }
 
 -- an event, and then a batch
 abbrev pub followed_by : Outcome → Performed → Performed
-followed_by o b = record { board = b.board; replies = reply_to_c o.1 (length o.2) ∷ b.replies; notices = o.2 ++ b.notices }
+followed_by o b =
+    record { board = b.board; replies = reply_to_c o.1 (length o.2) ∷ b.replies; notices = o.2 ++ b.notices }
 
 -- events one after another, up to the first that is invalid
 unfoldable pub batch : BoardView → List CEvent → Performed
 batch d [] = empty d
-batch d (e ∷ es) = option_map_or (λ event. let o = step d.0 event in followed_by o (batch (o.0, o.2) es)) (event_from_c e) (empty d)
+batch d (e ∷ es) =
+    option_map_or (λ event. let o = step d.0 event in followed_by o (batch (o.0, o.2) es)) (event_from_c e) (empty d)
 
 -- there is a next event, and it is invalid
 abbrev pub IsNotAnEvent : Option CEvent → Type 0

@@ -12,7 +12,8 @@ use Rattle.c_terms.specs.declared.event.CEvent.{CEvent}
 
 -- the first `count` bytes, if there are that many and they fit
 abbrev pub bytes_from_c : ℕ → List ℕ → ℕ → Option (ArrayVec ℕ)
-bytes_from_c most bytes count = if nat_lt most count || nat_lt (length bytes) count then None else Some (record { items = take count bytes })
+bytes_from_c most bytes count =
+    if nat_lt most count || nat_lt (length bytes) count then None else Some (record { items = take count bytes })
 
 -- a vector, if the number is at least 16
 abbrev pub vector_from_c : ℕ → Option ℕ

@@ -6,7 +6,8 @@ use Rattle.c_terms.specs.declared.notice.CNotice.{CNotice}
 
 -- a kind and a processor, and no other field used
 abbrev pub empty_notice : ℕ → ℕ → CNotice
-empty_notice kind vp = record { kind = kind; vp = vp; sint = 0; vector = 0; timer = 0; flag = 0; ticket = 0; due = 0; count = 0 }
+empty_notice kind vp =
+    record { kind = kind; vp = vp; sint = 0; vector = 0; timer = 0; flag = 0; ticket = 0; due = 0; count = 0 }
 
 abbrev pub notice_to_c : Notice → CNotice
 notice_to_c (Accepted vp sint ticket) = record (empty_notice 1 vp) { sint = sint; ticket = ticket }

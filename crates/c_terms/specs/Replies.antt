@@ -13,7 +13,18 @@ use Rattle.c_terms.specs.Events.{bytes_from_c, vector_from_c}
 
 -- a kind, and how many notices there are; no other field used
 abbrev pub empty_reply : ℕ → ℕ → CReply
-empty_reply kind notices = record { kind = kind; fault = 0; refusal = 0; vector = 0; length = 0; notices = notices; value = 0; ticket = 0; bytes = replicate 8 0 }
+empty_reply kind notices =
+    record {
+      kind = kind;
+      fault = 0;
+      refusal = 0;
+      vector = 0;
+      length = 0;
+      notices = notices;
+      value = 0;
+      ticket = 0;
+      bytes = replicate 8 0;
+    }
 
 -- the bytes, padded with zeros to eight
 abbrev pub padded : List ℕ → List ℕ

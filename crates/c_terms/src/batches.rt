@@ -43,15 +43,18 @@ pub fn perform_batch(
 ) -> Batch
     ensures board { view_of board.new ≡ (batch (view_of board.old) (take result.done events.now)).board }
     ensures replies { Fronts (batch (view_of board.old) (take result.done events.now)).replies replies.old replies.new }
-    ensures notices { Fronts (map notice_to_c (batch (view_of board.old) (take result.done events.now)).notices) notices.old notices.new }
+    ensures notices { Fronts
+        (map notice_to_c (batch (view_of board.old) (take result.done events.now)).notices) notices.old notices.new }
     ensures done { length (batch (view_of board.old) (take result.done events.now)).replies ≡ result.done }
     ensures emitted { length (batch (view_of board.old) (take result.done events.now)).notices ≡ result.emitted }
     ensures within { result.done ≤ length events.now }
     ensures fits { (result.done ≤ length replies.old) × (result.emitted ≤ length notices.old) }
     ensures all { result.end ≡ BatchEnd.All → result.done ≡ length events.now }
     ensures none { result.end ≡ BatchEnd.NoEvent → IsNotAnEvent (slice_get events.now result.done) }
-    ensures room_first { result.end ≡ BatchEnd.NoEvent → (result.done < length replies.old) × (result.emitted + 276 ≤ length notices.old) }
-    ensures room { result.end ≡ BatchEnd.NoRoom → (length replies.old ≡ result.done) ⊎ (length notices.old < result.emitted + 276) }
+    ensures room_first { result.end ≡ BatchEnd.NoEvent → (result.done < length replies.old)
+        × (result.emitted + 276 ≤ length notices.old) }
+    ensures room { result.end ≡ BatchEnd.NoRoom → (length replies.old ≡ result.done)
+        ⊎ (length notices.old < result.emitted + 276) }
 {
     let mut emitted = 0;
     for done in 0..events.len() {

@@ -30,9 +30,11 @@ pub fn lines_of(
     event: &CEvent,
     reply: &CReply,
 ) -> Result<Vec<u8>, EntryFault>
-    ensures emitted { IfOk result (λ v. entry_text actor (event_from_c event.now) (reply_from_c reply.now) ≡ Some v.items) }
+    ensures emitted { IfOk result
+        (λ v. entry_text actor (event_from_c event.now) (reply_from_c reply.now) ≡ Some v.items) }
     ensures event { IsErrOf result EntryFault.NoEvent ↔ (event_from_c event.now ≡ None) }
-    ensures reply { IsErrOf result EntryFault.NoReply ↔ ((event_from_c event.now ≢ None) × (reply_from_c reply.now ≡ None)) }
+    ensures reply { IsErrOf result EntryFault.NoReply ↔
+        ((event_from_c event.now ≢ None) × (reply_from_c reply.now ≡ None)) }
 {
     let Some(event) = event_of(event) else {
         return Err(EntryFault::NoEvent);

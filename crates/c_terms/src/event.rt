@@ -145,7 +145,8 @@ pub fn event_of(plain: &CEvent) -> Option<Event>
 /// Performs the event that a plain struct encodes, and replaces the notices by its own. `None` if
 /// it encodes none; then nothing changes.
 pub fn perform_c(board: &mut Board, notices: &mut Notices, plain: &CEvent) -> Option<Reply>
-    ensures step { IfSome result (λ r. HasOutcome (event_from_c plain.now) board.old.state (board.new.state, r, notices.new)) }
+    ensures step { IfSome result
+        (λ r. HasOutcome (event_from_c plain.now) board.old.state (board.new.state, r, notices.new)) }
     ensures bound { IfSome result (λ _. length notices.new ≤ 276) }
     ensures none { IfNone result (event_from_c plain.now ≡ None) }
     ensures board { IfNone result (board.new ≡ board.old) }
@@ -188,7 +189,8 @@ fn perform_kind<const KIND: u8>(
     plain: &CEvent,
 ) -> Option<Reply>
     requires { plain.now.kind ≡ KIND }
-    ensures step { IfSome result (λ r. HasOutcome (event_from_c plain.now) board.old.state (board.new.state, r, notices.new)) }
+    ensures step { IfSome result
+        (λ r. HasOutcome (event_from_c plain.now) board.old.state (board.new.state, r, notices.new)) }
     ensures bound { IfSome result (λ _. length notices.new ≤ 276) }
     ensures none { IfNone result (event_from_c plain.now ≡ None) }
     ensures board { IfNone result (board.new ≡ board.old) }

@@ -9,7 +9,8 @@ use c_handles::History;
 use std::alloc::{AllocError, Global};
 use text_trace::put_trace;
 
-/// The trace of a history, in format 2, or in format 5 if it has a send. It is legal, with as many entries as the history.
+/// The trace of a history, in format 2, or in format 5 if it has a send. It is legal, with as many
+/// entries as the history.
 /// `next_ticket` is that of the board to which the history leads.
 pub fn trace_of(
     alloc: Global,

@@ -32,7 +32,8 @@ halvings n leaf zero above h = omega arith
 halvings n leaf (suc d) above h =
     let power : 2 ^ suc d ≡ 2 ^ d * 2 = pow-suc 2 d in
     let less : 2 ^ d < n = omega arith in
-    counted n (suc d) n (omega (arith, below_power d)) (λ i l. let le : 2 ^ i ≤ 2 ^ d = pow-le-pow_right (omega arith) (omega arith) in omega arith)
+    counted n (suc d) n (omega (arith, below_power d))
+    (λ i l. let le : 2 ^ i ≤ 2 ^ d = pow-le-pow_right (omega arith) (omega arith) in omega arith)
 
 -- a node that was reached from a leaf by a comparison for each halving
 pub record IsHalved (leaf node before now : ℕ) : Type 0 where
@@ -43,7 +44,8 @@ pub record IsHalved (leaf node before now : ℕ) : Type 0 where
 pub not-halved : (leaf before : ℕ) → IsHalved leaf leaf before before
 not-halved leaf before = record { times = 0; counted = omega arith; above = omega arith }
 
-pub halved-again : (leaf node before now next : ℕ) → IsHalved leaf node before now → next ≡ now + 1 → IsHalved leaf (node / 2) before next
+pub halved-again : (leaf node before now next : ℕ) → IsHalved leaf node before now → next ≡ now + 1
+    → IsHalved leaf (node / 2) before next
 halved-again leaf node before now next h e = record {
   times = suc h.times;
   counted = omega (arith, h.counted, e);
@@ -53,7 +55,8 @@ halved-again leaf node before now next h e = record {
       rw (power, mul_assoc) (omega (arith, less, h.above));
 }
 
-pub within-levels : (n leaf node before now : ℕ) → leaf < 2 * n → 0 < node → IsHalved leaf node before now → now ≤ before + levels n
+pub within-levels : (n leaf node before now : ℕ) → leaf < 2 * n → 0 < node → IsHalved leaf node before now
+    → now ≤ before + levels n
 within-levels n leaf node before now low pos h =
     let power : 2 ^ h.times * 1 ≤ 2 ^ h.times * node = mul-le-mul_left (2 ^ h.times) (omega arith) in
     let most : h.times ≤ levels n = halvings n leaf h.times low (omega (arith, power, h.above)) in

@@ -81,7 +81,8 @@ module _ (t : Tree) (sound : IsSound t) (moment p : ℕ) (inside : 4 * p < count
       let b : 2 * (2 * j) + 1 ≡ count t + (4 * p + 1) = omega arith in
       let c : 2 * (2 * j + 1) ≡ count t + (4 * p + 2) = omega arith in
       let d : 2 * (2 * j + 1) + 1 ≡ count t + (4 * p + 3) = omega arith in
-      above ∙ (λ i. min (left i) (right i)) ∙ (λ i. min (min (node t (a i)) (node t (b i))) (min (node t (c i)) (node t (d i))))
+      above ∙ (λ i. min (left i) (right i))
+      ∙ (λ i. min (min (node t (a i)) (node t (b i))) (min (node t (c i)) (node t (d i))))
 
   low : (i : ℕ) → i < 4 → number_of (p, i) < count t
   low i h = let fours = sound.tree.fours in omega arith
@@ -107,10 +108,12 @@ module _ (t : Tree) (sound : IsSound t) (moment p : ℕ) (inside : 4 * p < count
       ]
 
   pub none-due : top < late_word → moment < top / 256 → has_due (dues t) moment p ≡ false
-  none-due soon past = none-of _ _ _ _ (none 0 (omega arith)) (none 1 (omega arith)) (none 2 (omega arith)) (none 3 (omega arith))
+  none-due soon past =
+      none-of _ _ _ _ (none 0 (omega arith)) (none 1 (omega arith)) (none 2 (omega arith)) (none 3 (omega arith))
     where
       none : (i : ℕ) → i < 4 → is_due_by (dues t) moment (number_of (p, i)) ≡ false
-      none i h = by-word i h ∙ not-due moment (word i) (far i) (number_of (p, i)) top (is-word i h) (not-less i h) soon past
+      none i h = by-word i h ∙ not-due moment (word i) (far i) (number_of (p, i)) top (is-word i h)
+          (not-less i h) soon past
 
   pub one-due : top < late_word → top / 256 ≤ moment → has_due (dues t) moment p ≡ true
   one-due soon le = one-of _ _ _ _ (λ a b c.
@@ -126,10 +129,14 @@ module _ (t : Tree) (sound : IsSound t) (moment p : ℕ) (inside : 4 * p < count
       due-word w f l = ap (λ o. option_map_or (λ d. nat_le d moment) o false) (due-early w f l)
 
       apart : (i : ℕ) → i < 4 → is_due_by (dues t) moment (number_of (p, i)) ≡ false → word i ≢ top
-      apart i h missed = hit moment (word i) (far i) (number_of (p, i)) top (is-word i h) (not-less i h) soon le (sym (by-word i h) ∙ missed)
+      apart i h missed =
+          hit moment (word i) (far i) (number_of (p, i)) top (is-word i h) (not-less i h) soon le
+          (sym (by-word i h) ∙ missed)
 
   pub none-set : late_word < top → has_due (dues t) moment p ≡ false
-  none-set never = none-of _ _ _ _ (none 0 (omega arith)) (none 1 (omega arith)) (none 2 (omega arith)) (none 3 (omega arith))
+  none-set never =
+      none-of _ _ _ _ (none 0 (omega arith)) (none 1 (omega arith)) (none 2 (omega arith)) (none 3 (omega arith))
     where
       none : (i : ℕ) → i < 4 → is_due_by (dues t) moment (number_of (p, i)) ≡ false
-      none i h = by-word i h ∙ no-deadline moment (word i) (far i) (number_of (p, i)) top (is-word i h) (not-less i h) never
+      none i h = by-word i h ∙ no-deadline moment (word i) (far i) (number_of (p, i)) top (is-word i h)
+          (not-less i h) never

@@ -48,7 +48,8 @@ fn compare(nodes: &mut [u64], child: usize, first: u64, comparer: &mut Comparer)
     requires above { 1 < child }
     requires bound { child / 2 * 2 + 1 < length nodes.old }
     requires first { first ≡ slice_index_or nodes.old child 0 }
-    ensures lesser { result ≡ min (slice_index_or nodes.old (2 * (child / 2)) 0) (slice_index_or nodes.old (2 * (child / 2) + 1) 0) }
+    ensures lesser { result ≡ min (slice_index_or nodes.old (2 * (child / 2)) 0)
+        (slice_index_or nodes.old (2 * (child / 2) + 1) 0) }
     ensures written { nodes.new ≡ slice_set nodes.old (child / 2) result }
     ensures total { comparer.new.total.number ≡ comparer.old.total.number + 1 }
 {
@@ -207,7 +208,8 @@ impl Table {
         requires number { number < count (tree_in self.old) }
         requires word { IsWord word (late_due (tree_in self.old) number) number }
         ensures sound { IsSound (tree_in self.new) }
-        ensures dues { dues (tree_in self.new) ≡ slice_set (dues (tree_in self.old)) number (due_from word (late_due (tree_in self.old) number)) }
+        ensures dues { dues (tree_in self.new)
+            ≡ slice_set (dues (tree_in self.old)) number (due_from word (late_due (tree_in self.old) number)) }
         ensures compared { comparer.new.total.number ≤ comparer.old.total.number + levels (count (tree_in self.old)) }
     {
         let leaf = self.leaf(number);
@@ -285,7 +287,9 @@ impl Table {
     fn first_late(&self) -> Option<u8>
         requires sound { IsSound (tree_in self.now) }
         requires late { late_word ≤ node (tree_in self.now) 1 }
-        ensures { least (dues (tree_in self.now)) ≡ option_map_or (λ n. option_map (λ d. (d, timer_of n)) (slice_index_or (dues (tree_in self.now)) n None)) result None }
+        ensures { least (dues (tree_in self.now))
+            ≡ option_map_or (λ n. option_map (λ d. (d, timer_of n)) (slice_index_or (dues (tree_in self.now)) n None))
+            result None }
     {
         if self.nodes[1] == NEVER {
             return None;

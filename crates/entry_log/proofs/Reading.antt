@@ -17,7 +17,8 @@ entries-length bytes [] = refl
 entries-length bytes (e ∷ es) = omega (arith, entries-length (drop (size e) bytes) es)
 
 -- an entry does not depend on the bytes after its own
-entry-front : (bytes more : List ℕ) (e : CompactEntry) → size e ≤ length bytes → entry_with (bytes ++ more) e ≡ entry_with bytes e
+entry-front : (bytes more : List ℕ) (e : CompactEntry) → size e ≤ length bytes
+    → entry_with (bytes ++ more) e ≡ entry_with bytes e
 entry-front bytes more e fits =
     let n = event_count e.event in
     let m = reply_count e.reply in
@@ -38,18 +39,21 @@ entries-push bytes own (x ∷ es) e whole =
     let sum = sum_by-cons size x es in
     let fits : size x ≤ length bytes = omega arith in
     let rest = entries-push (drop (size x) bytes) own es e (omega (arith, length-drop (size x) bytes)) in
-    λ i. entry-front bytes own x fits i ∷ (ap (λ (l : List ℕ). entries_in l (es ++ e ∷ [])) (drop-append-le (size x) bytes own fits) ∙ rest) i
+    λ i. entry-front bytes own x fits i ∷
+    (ap (λ (l : List ℕ). entries_in l (es ++ e ∷ [])) (drop-append-le (size x) bytes own fits) ∙ rest) i
 
 -- the numbers and the bytes of an entry determine it
 pub entry-whole : (actor : ℕ) (event : Event) (reply : Reply) (numbers : CompactEvent) (answer : CompactReply)
     → event_with (event_bytes event) numbers ≡ event → event_count numbers ≡ length (event_bytes event)
     → reply_with (reply_bytes reply) answer ≡ reply → reply_count answer ≡ length (reply_bytes reply)
-    → entry_with (event_bytes event ++ reply_bytes reply) (record { actor = actor; event = numbers; reply = answer }) ≡ entry actor event reply
+    → entry_with (event_bytes event ++ reply_bytes reply) (record { actor = actor; event = numbers; reply = answer })
+    ≡ entry actor event reply
 entry-whole actor event reply numbers answer same count same_reply count_reply =
     let front = event_bytes event in
     let behind = reply_bytes reply in
     let own = take_at front behind (event_count numbers) (sym count) in
-    let rest = ap (take (reply_count answer)) (drop_at front behind (event_count numbers) (sym count)) ∙ take_all (reply_count answer) behind (omega arith) in
+    let rest = ap (take (reply_count answer)) (drop_at front behind (event_count numbers) (sym count))
+    ∙ take_all (reply_count answer) behind (omega arith) in
     λ i. record {
       actor = actor;
       event = (ap (λ (l : List ℕ). event_with l numbers) own ∙ same) i;
@@ -57,5 +61,6 @@ entry-whole actor event reply numbers answer same count same_reply count_reply =
     }
 
 -- from an entry to the next
-pub next : (es : List CompactEntry) (i : ℕ) (e : CompactEntry) → i < length es → e ≡ get_or es i e → drop i es ≡ e ∷ drop (i + 1) es
+pub next : (es : List CompactEntry) (i : ℕ) (e : CompactEntry) → i < length es → e ≡ get_or es i e
+    → drop i es ≡ e ∷ drop (i + 1) es
 next es i e lt at = rw (add-one, drop-cons es i e lt) (λ j. sym at j ∷ drop (suc i) es)

@@ -10,7 +10,8 @@ use Rattle.event_ports.specs.Shapes.{buffers_of}
 use Rattle.event_ports.specs.Ports.{Ports, port_at, buffers_at, buffers_to, without_port, target_of}
 
 -- the buffers of an open port are among those of its processor
-pub port-counts : (s : Ports) (n : ℕ) (x : Port) → n < length s.ports → port_at s n ≡ Some x → buffers_of x.shape ≤ buffers_to s x.vp
+pub port-counts : (s : Ports) (n : ℕ) (x : Port) → n < length s.ports → port_at s n ≡ Some x
+    → buffers_of x.shape ≤ buffers_to s x.vp
 port-counts s n x within was =
     let least = get_or-le-sum_by (buffers_at x.vp) s.ports n None within in
     let here = ap (buffers_at x.vp) was in
@@ -18,7 +19,8 @@ port-counts s n x within was =
     omega (arith, least, here, mine)
 
 -- the port takes its own buffers with it
-pub closed-own : (s : Ports) (n : ℕ) (x : Port) → n < length s.ports → port_at s n ≡ Some x → buffers_to (without_port s n) x.vp + buffers_of x.shape ≡ buffers_to s x.vp
+pub closed-own : (s : Ports) (n : ℕ) (x : Port) → n < length s.ports → port_at s n ≡ Some x
+    → buffers_to (without_port s n) x.vp + buffers_of x.shape ≡ buffers_to s x.vp
 closed-own s n x within was =
     let sum = sum_by-set (buffers_at x.vp) s.ports n None None within in
     let here = ap (buffers_at x.vp) was in
@@ -26,7 +28,8 @@ closed-own s n x within was =
     omega (arith, sum, here, mine)
 
 -- another processor has as many as before
-pub closed-other : (s : Ports) (n p : ℕ) (x : Port) → n < length s.ports → port_at s n ≡ Some x → x.vp ≢ p → buffers_to (without_port s n) p ≡ buffers_to s p
+pub closed-other : (s : Ports) (n p : ℕ) (x : Port) → n < length s.ports → port_at s n ≡ Some x → x.vp ≢ p
+    → buffers_to (without_port s n) p ≡ buffers_to s p
 closed-other s n p x within was other =
     let sum = sum_by-set (buffers_at p) s.ports n None None within in
     let here = ap (buffers_at p) was in
@@ -37,6 +40,7 @@ closed-other s n p x within was other =
 pub port-of : (s : Ports) (n : ℕ) (x : Port) → target_of s n ≡ Ok x → port_at s n ≡ Some x
 port-of s n x is = go (port_at s n) is
   where
-    go : (p : Option Port) → ◌≡◌ {A = Result Port Refusal} (option_map_or (λ y. Ok y) p (Err UnknownPort)) (Ok x) → p ≡ Some x
+    go : (p : Option Port) → ◌≡◌ {A = Result Port Refusal} (option_map_or (λ y. Ok y) p (Err UnknownPort)) (Ok x)
+        → p ≡ Some x
     go (Some y) same = let it : y ≡ x = cc in ap (λ (z : Port). Some z) it
     go None same = absurd (cc)

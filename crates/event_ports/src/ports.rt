@@ -100,8 +100,10 @@ impl Ports {
     /// out of range, or the ports of the processor would have more than 256 message buffers.
     #[inline(never)]
     pub fn open_port(&mut self, port: u8, vp: u8, sint: u8, shape: PortShape) -> Result<(), Refusal>
-        ensures answer { MatchResult result (λ _. open_refusal self.old port vp sint shape ≡ None) (λ r. open_refusal self.old port vp sint shape ≡ Some r) }
-        ensures opened { IfOk result (λ _. self.new ≡ with_port self.old port (record { vp = vp; sint = sint; shape = shape })) }
+        ensures answer { MatchResult result (λ _. open_refusal self.old port vp sint shape ≡ None)
+            (λ r. open_refusal self.old port vp sint shape ≡ Some r) }
+        ensures opened { IfOk result
+            (λ _. self.new ≡ with_port self.old port (record { vp = vp; sint = sint; shape = shape })) }
         ensures refused { OnErr result (self.new ≡ self.old) }
     {
         match self.ports.get(port as usize) {

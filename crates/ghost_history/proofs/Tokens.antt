@@ -27,17 +27,28 @@ abbrev pub token : Val
 token = vstruct (vcons (vstruct vnil) vnil)
 
 abbrev pub bare : Sym → Fml
-bare name = (Struct (record { name = name; args = []; types = []; fields = (marker.the_field unit).row ∷ [] })).own_val (tt, tt) (token ∷ [])
+bare name = (Struct
+    (record { name = name; args = []; types = []; fields = (marker.the_field unit).row ∷ [] })).own_val (tt, tt)
+    (token ∷ [])
 
 pub bare_made : {M : Type 1} {𝓤 : Ura M} (𝓛 : Logic 𝓤) (name : Sym) → ent 𝓤 (emp 𝓤) (sem 𝓛 (bare name))
-bare_made 𝓛 name = makes_shadow 𝓛 (bare name) (λ vss. (tt, ((λ uss. (tt, tt)), tt))) ((vstruct vnil ∷ [], tt), (refl, ((tt, (refl, tt)), tt)))
+bare_made 𝓛 name =
+    makes_shadow 𝓛 (bare name) (λ vss. (tt, ((λ uss. (tt, tt)), tt)))
+    ((vstruct vnil ∷ [], tt), (refl, ((tt, (refl, tt)), tt)))
 
 -- an actor's three quarters of its row, at a key
 abbrev pub held : ℕ → Row → ℕ → Fml
 held name row k = seen row_coded.code name k three_quarters row
 
 pub roster_send : IsSend rosters.the_row
-roster_send = record { owned = λ r vs. ((λ vss. (tt, ((λ uss. (tt, tt)), tt))), roster_keyless row_coded.code r.name 0 r.rows); leaving = λ k d w. tt }
+roster_send =
+    record {
+      owned = λ r vs. ((λ vss. (tt, ((λ uss. (tt, tt)), tt))), roster_keyless row_coded.code r.name 0 r.rows);
+      leaving = λ k d w. tt;
+    }
 
 pub part_send : IsSend parts.the_row
-part_send = record { owned = λ p vs. ((λ vss. (tt, ((λ uss. (tt, tt)), tt))), (λ k. entry_keyless halved p.name k _)); leaving = λ k d w. tt }
+part_send = record {
+  owned = λ p vs. ((λ vss. (tt, ((λ uss. (tt, tt)), tt))), (λ k. entry_keyless halved p.name k _));
+  leaving = λ k d w. tt;
+}

@@ -13,4 +13,5 @@ row number entries = (number, entries)
 
 -- an actor's row is among the rows, and both have more entries then; no other row changes
 abbrev pub IsExtended : List Row → Row → List Entry → List Row → Row → Type 0
-IsExtended rows own more rows' own' = (own' ≡ row own.0 (own.1 ++ more)) × (k : ℕ) × (get_elem? rows k ≡ some own) × (rows' ≡ slice_set rows k own')
+IsExtended rows own more rows' own' =
+    (own' ≡ row own.0 (own.1 ++ more)) × (k : ℕ) × (get_elem? rows k ≡ some own) × (rows' ≡ slice_set rows k own')

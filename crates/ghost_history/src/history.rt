@@ -53,7 +53,8 @@ impl History {
 
     /// The history with the call that joins it.
     pub(crate) fn after(added: &Added) -> History
-        ensures { result.entries ≡ added.now.before.value.entries ++ entry added.now.actor added.now.event.value added.now.reply.value ∷ [] }
+        ensures { result.entries
+            ≡ added.now.before.value.entries ++ entry added.now.actor added.now.event.value added.now.reply.value ∷ [] }
     {
         let _ = added;
         History {

@@ -11,26 +11,34 @@ use Rattle.gpa_space.specs.Space.{is_mapped_at}
 use Rattle.gpa_space.specs.inside.OverlaysAt.{own_word, has_word, AreOverlaysAt, IsLowest, Marks}
 
 -- no overlay is mapped at a page
-pub none-visible : (registers : List ℕ) (page : ℕ) → ((k : ℕ) → k < length registers → is_mapped_at page (get_or registers k 0) ≡ false) → None ≡ position (is_mapped_at page) registers
+pub none-visible : (registers : List ℕ) (page : ℕ)
+    → ((k : ℕ) → k < length registers → is_mapped_at page (get_or registers k 0) ≡ false)
+    → None ≡ position (is_mapped_at page) registers
 none-visible registers page none =
-    let first : position_or_len (is_mapped_at page) registers ≡ length registers = position_or_len_is (is_mapped_at page) registers (length registers) 0 (omega arith) none (λ lt. absurd (omega arith)) in
+    let first : position_or_len (is_mapped_at page) registers ≡ length registers =
+    position_or_len_is (is_mapped_at page) registers (length registers) 0 (omega arith) none
+    (λ lt. absurd (omega arith)) in
     grind (arith, nat_tests)
 
 -- an overlay that is mapped somewhere has a register
 within : (registers : List ℕ) (page k : ℕ) → is_mapped_at page (get_or registers k 0) ≡ true → k < length registers
 within registers page k is_mapped = ⊎_elim (λ lt. lt)
-    (λ beyond. let none = ap (is_mapped_at page) (get_or_past registers k 0 beyond) in let no : true ≡ false = sym is_mapped ∙ none in absurd (cc)) (cases_lt k (length registers))
+    (λ beyond. let none = ap (is_mapped_at page) (get_or_past registers k 0 beyond) in
+    let no : true ≡ false = sym is_mapped ∙ none in absurd (cc)) (cases_lt k (length registers))
 
 -- an overlay is mapped at a page, and none before it
-pub first-visible : (registers : List ℕ) (page k : ℕ) → is_mapped_at page (get_or registers k 0) ≡ true → ((i : ℕ) → i < k → is_mapped_at page (get_or registers i 0) ≡ false) →
+pub first-visible : (registers : List ℕ) (page k : ℕ) → is_mapped_at page (get_or registers k 0) ≡ true
+    → ((i : ℕ) → i < k → is_mapped_at page (get_or registers i 0) ≡ false) →
     Some k ≡ position (is_mapped_at page) registers
 first-visible registers page k here none =
     let inside = within registers page k here in
-    let first : position_or_len (is_mapped_at page) registers ≡ k = position_or_len_is (is_mapped_at page) registers k 0 (omega arith) none (λ _. here) in
+    let first : position_or_len (is_mapped_at page) registers ≡ k =
+    position_or_len_is (is_mapped_at page) registers k 0 (omega arith) none (λ _. here) in
     grind (arith, nat_tests)
 
 -- the overlay with the lowest bit set is visible, and none if no bit is set
-pub lowest-visible : (registers words : List ℕ) (page : ℕ) (first : Option ℕ) → AreOverlaysAt own_word 16 registers words → page < length words → length registers ≤ 16 →
+pub lowest-visible : (registers words : List ℕ) (page : ℕ) (first : Option ℕ)
+    → AreOverlaysAt own_word 16 registers words → page < length words → length registers ≤ 16 →
     IsLowest (get_or words page 0) first → first ≡ position (is_mapped_at page) registers
 lowest-visible registers words page None are inside bound none =
     none-visible registers page (λ k below. sym (are page k inside (omega arith)) ∙ ap (λ b. b == 1) (none k))
@@ -48,7 +56,8 @@ module _ (word_of : ℕ → ℕ) where
 
   -- the overlay left the page that its register named, and is mapped at the one that it names now
   pub keeps : (bits : ℕ) (xs words once twice : List ℕ) (o y : ℕ) → o < length xs → AreOverlaysAt word_of bits xs words
-      → Marks bits words once (word_of (get_or xs o 0 / 4096)) o false → Marks bits once twice (word_of (y / 4096)) o (bit_and y 1 == 1)
+      → Marks bits words once (word_of (get_or xs o 0 / 4096)) o false
+      → Marks bits once twice (word_of (y / 4096)) o (bit_and y 1 == 1)
       → AreOverlaysAt word_of bits (set xs o y) twice
   keeps bits xs words once twice o y lt are leaves comes at i inside low = ⊎_elim own other (cases_eq i o)
     where
@@ -57,7 +66,8 @@ module _ (word_of : ℕ → ℕ) where
 
       other : i ≢ o → (bit_at (get_or twice at 0) i == 1) ≡ has_word word_of at (get_or (set xs o y) i 0)
       other apart =
-          ap (λ b. b == 1) (comes.others at i low (inr apart) ∙ leaves.others at i low (inr apart)) ∙ are at i before low
+          ap (λ b. b == 1) (comes.others at i low (inr apart) ∙ leaves.others at i low (inr apart))
+          ∙ are at i before low
           ∙ ap (has_word word_of at) (sym (get_or-set_other xs o i y 0 apart))
 
       own : i ≡ o → (bit_at (get_or twice at 0) i == 1) ≡ has_word word_of at (get_or (set xs o y) i 0)
@@ -68,20 +78,28 @@ module _ (word_of : ℕ → ℕ) where
           small : o < bits
           small = subst (λ k. k < bits) same low
 
-          gone : (at ≡ word_of (get_or xs o 0 / 4096)) ⊎ (at ≢ word_of (get_or xs o 0 / 4096)) → (bit_at (get_or once at 0) o == 1) ≡ false
-          gone (inl here) = ap (λ p. bit_at (get_or once p 0) o == 1) here ∙ leaves.here (subst (λ p. p < length words) here before)
-          gone (inr away) = ap (λ b. b == 1) (leaves.others at o small (inl away)) ∙ are at o before small ∙ elsewhere at (get_or xs o 0) away
+          gone : (at ≡ word_of (get_or xs o 0 / 4096)) ⊎ (at ≢ word_of (get_or xs o 0 / 4096))
+              → (bit_at (get_or once at 0) o == 1) ≡ false
+          gone (inl here) =
+              ap (λ p. bit_at (get_or once p 0) o == 1) here ∙ leaves.here (subst (λ p. p < length words) here before)
+          gone (inr away) =
+              ap (λ b. b == 1) (leaves.others at o small (inl away)) ∙ are at o before small
+              ∙ elsewhere at (get_or xs o 0) away
 
-          reached : (at ≡ word_of (y / 4096)) ⊎ (at ≢ word_of (y / 4096)) → (bit_at (get_or twice at 0) o == 1) ≡ has_word word_of at y
+          reached : (at ≡ word_of (y / 4096)) ⊎ (at ≢ word_of (y / 4096))
+              → (bit_at (get_or twice at 0) o == 1) ≡ has_word word_of at y
           reached (inl here) =
-              ap (λ p. bit_at (get_or twice p 0) o == 1) here ∙ comes.here (subst (λ p. p < length once) here (omega (arith, before, leaves.many)))
+              ap (λ p. bit_at (get_or twice p 0) o == 1) here
+              ∙ comes.here (subst (λ p. p < length once) here (omega (arith, before, leaves.many)))
               ∙ sym (there at y here)
           reached (inr away) =
-              ap (λ b. b == 1) (comes.others at o small (inl away)) ∙ gone (cases_eq at (word_of (get_or xs o 0 / 4096))) ∙ sym (elsewhere at y away)
+              ap (λ b. b == 1) (comes.others at o small (inl away))
+              ∙ gone (cases_eq at (word_of (get_or xs o 0 / 4096))) ∙ sym (elsewhere at y away)
 
 -- no overlay is mapped anywhere at first
 zeros : (n i : ℕ) → get_or {A = ℕ} (replicate n 0) i 0 ≡ 0
-zeros n i = ⊎_elim (λ lt. get_or-replicate n i 0 0 lt) (λ beyond. get_or_past (replicate n 0) i 0 (omega (arith, length-replicate {A = ℕ} n 0, beyond))) (cases_lt i n)
+zeros n i = ⊎_elim (λ lt. get_or-replicate n i 0 0 lt)
+    (λ beyond. get_or_past (replicate n 0) i 0 (omega (arith, length-replicate {A = ℕ} n 0, beyond))) (cases_lt i n)
 
 pub opens : (word_of : ℕ → ℕ) (bits m n : ℕ) → AreOverlaysAt word_of bits (replicate m 0) (replicate n 0)
 opens word_of bits m n at i inside low = rw (zeros n at, zeros m i, bit_at-zero i) refl

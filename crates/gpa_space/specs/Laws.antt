@@ -25,5 +25,6 @@ pub record IsWholeSpace (s : Space) : Type 0 where
 
 -- a guest loads the bytes that it stored
 abbrev pub StoredBytesAreLoaded : Type 0
-StoredBytesAreLoaded = (s : Space) (address : ℕ) (bytes : List ℕ) → IsWholeSpace s → refusal_of s address (length bytes) ≡ None →
+StoredBytesAreLoaded =
+    (s : Space) (address : ℕ) (bytes : List ℕ) → IsWholeSpace s → refusal_of s address (length bytes) ≡ None →
     loaded (after_store s address bytes) address (length bytes) ≡ Ok (record { items = bytes })

@@ -20,12 +20,18 @@ pub record Space : Type 0 where
 
 -- all pages are zeros, and all overlays are disabled
 abbrev pub opened : ℕ → ℕ → Space
-opened processors pages = record { pages = replicate pages zero_page; registers = replicate (2 * processors) 0; own = replicate (2 * processors) zero_page }
+opened processors pages =
+    record {
+      pages = replicate pages zero_page;
+      registers = replicate (2 * processors) 0;
+      own = replicate (2 * processors) zero_page;
+    }
 
 abbrev pub processors_of : Space → ℕ
 processors_of s = length s.registers / 2
 
--- a space that holds no guest pages is sparse: they are in the caller's memory, and there are as many as an address of 64 bits reaches
+-- a space that holds no guest pages is sparse: they are in the caller's memory, and there are as many as an address
+-- of 64 bits reaches
 abbrev pub is_sparse : Space → Bool
 is_sparse s = length s.pages == 0
 
@@ -71,7 +77,9 @@ is_covered s page = nat_lt page (page_count s) && not (is_none (visible s page))
 -- the first page from a number on where a guest sees an overlay, with its owner, if there is one
 abbrev pub IsNextOverlay : Space → PageNumber → Option (PageNumber × Owner) → Type 0
 IsNextOverlay s from None = (page : ℕ) → from ≤ page → is_covered s page ≡ false
-IsNextOverlay s from (Some o) = (from ≤ o.0) × (is_covered s o.0 ≡ true) × (o.1 ≡ owner_of s o.0) × ((page : ℕ) → from ≤ page → page < o.0 → is_covered s page ≡ false)
+IsNextOverlay s from (Some o) =
+    (from ≤ o.0) × (is_covered s o.0 ≡ true) × (o.1 ≡ owner_of s o.0)
+    × ((page : ℕ) → from ≤ page → page < o.0 → is_covered s page ≡ false)
 
 -- the page that a guest sees there is in the caller's memory
 abbrev pub is_elsewhere : Space → PageNumber → Bool
@@ -79,11 +87,14 @@ is_elsewhere s page = is_sparse s && is_none (visible s page)
 
 -- the bytes that a guest sees at a page
 abbrev pub visible_page : Space → PageNumber → List ℕ
-visible_page s page = option_map_or (λ overlay. slice_index_or s.own overlay []) (visible s page) (slice_index_or s.pages page [])
+visible_page s page =
+    option_map_or (λ overlay. slice_index_or s.own overlay []) (visible s page) (slice_index_or s.pages page [])
 
 -- other bytes there: obscured bytes stay
 abbrev pub with_visible_page : Space → PageNumber → List ℕ → Space
-with_visible_page s page bytes = option_map_or (λ overlay. record s { own = slice_set s.own overlay bytes }) (visible s page) (record s { pages = slice_set s.pages page bytes })
+with_visible_page s page bytes =
+    option_map_or (λ overlay. record s { own = slice_set s.own overlay bytes }) (visible s page)
+    (record s { pages = slice_set s.pages page bytes })
 
 -- why a load or a store is refused; the checks are in this order
 abbrev pub refusal_of : Space → Address → ℕ → Option Refusal
@@ -96,11 +107,14 @@ refusal_of s address count =
 
 -- the bytes that a guest loads
 abbrev pub loaded : Space → Address → ℕ → Result (ArrayVec ℕ) Refusal
-loaded s address count = option_map_or (λ r. Err r) (refusal_of s address count) (Ok (record { items = take count (drop (address % 4096) (visible_page s (address / 4096))) }))
+loaded s address count =
+    option_map_or (λ r. Err r) (refusal_of s address count)
+    (Ok (record { items = take count (drop (address % 4096) (visible_page s (address / 4096))) }))
 
 -- the owner of the page that a guest's store writes to, and the space after it
 abbrev pub store_answer : Space → Address → List ℕ → Result Owner Refusal
-store_answer s address bytes = option_map_or (λ r. Err r) (refusal_of s address (length bytes)) (Ok (owner_of s (address / 4096)))
+store_answer s address bytes =
+    option_map_or (λ r. Err r) (refusal_of s address (length bytes)) (Ok (owner_of s (address / 4096)))
 
 abbrev pub after_store : Space → Address → List ℕ → Space
 after_store s address bytes =
@@ -128,7 +142,8 @@ abbrev pub is_flag_set : Space → Processor → Source → Flag → Bool
 is_flag_set s vp sint flag = is_set (own_page s vp kind.Sief) (flag_place sint flag) (flag % 8)
 
 abbrev pub after_flag : Space → Processor → Source → Flag → Space
-after_flag s vp sint flag = with_own_page s vp kind.Sief (with_bit (own_page s vp kind.Sief) (flag_place sint flag) (flag % 8))
+after_flag s vp sint flag =
+    with_own_page s vp kind.Sief (with_bit (own_page s vp kind.Sief) (flag_place sint flag) (flag % 8))
 
 -- a guest page has other bytes, whether it is obscured or not
 abbrev pub with_guest_page : Space → PageNumber → List ℕ → Space

@@ -90,7 +90,8 @@ impl Space {
         // It was mapped at no other page.
         if self.pages.is_empty() {
             self.candidates.mark(before.page(), overlay, false);
-            self.candidates.mark(word.page(), overlay, word.is_enabled());
+            self.candidates
+                .mark(word.page(), overlay, word.is_enabled());
         } else {
             self.mapped.mark(before.page(), overlay, false);
             self.mapped.mark(word.page(), overlay, word.is_enabled());
@@ -179,7 +180,8 @@ impl Space {
     /// space holds, or why a load or a store of that many bytes there is refused.
     #[inline(always)]
     fn overlay_at(&self, address: u64, length: usize) -> Result<Option<usize>, Refusal>
-        ensures { result ≡ option_map_or (λ r. Err r) (refusal_of self.now address length) (Ok (visible self.now (address / 4096))) }
+        ensures { result ≡ option_map_or (λ r. Err r) (refusal_of self.now address length)
+            (Ok (visible self.now (address / 4096))) }
     {
         let page = address / SIZE as u64;
         if length == 0 || length > 8 {
@@ -378,7 +380,8 @@ impl Space {
     pub fn restore_guest(&mut self, page: u64, at: usize, bytes: &[u8])
         requires page { page < length self.old.pages }
         requires inside { at + length bytes.now ≤ 4096 }
-        ensures { self.new ≡ with_guest_page self.old page (overwritten (slice_index_or self.old.pages page []) at bytes.now) }
+        ensures { self.new ≡ with_guest_page self.old page
+            (overwritten (slice_index_or self.old.pages page []) at bytes.now) }
     {
         self.pages[page as usize].store(at, bytes);
     }

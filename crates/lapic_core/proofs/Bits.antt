@@ -37,10 +37,13 @@ low_bit : (b : Bool) (n low i : ℕ) → i < n → bit_at ((if b then 2 ^ n else
 low_bit b n low i h = ap (λ x. bit_at (x + low) i) (scaled b n) ∙ bit_at_cat_low (digit b) n low i h
 
 top_bit : (b : Bool) (n low : ℕ) → low < 2 ^ n → (bit_at ((if b then 2 ^ n else 0) + low) n == 1) ≡ b
-top_bit b n low h = ap (λ x. bit_at (x + low) n == 1) (scaled b n) ∙ ap (λ x. x == 1) (bit_at_cat_high (digit b) n low n h (omega arith)) ∙ digit-is b (n - n) (omega arith)
+top_bit b n low h =
+    ap (λ x. bit_at (x + low) n == 1) (scaled b n)
+    ∙ ap (λ x. x == 1) (bit_at_cat_high (digit b) n low n h (omega arith)) ∙ digit-is b (n - n) (omega arith)
 
 no_bit : (b : Bool) (n low i : ℕ) → low < 2 ^ n → n < i → (bit_at ((if b then 2 ^ n else 0) + low) i == 1) ≡ false
-no_bit b n low i h up = ap (λ x. x == 1) (bit_at_above ((if b then 2 ^ n else 0) + low) (suc n) i (more-lt b n low h) (omega arith))
+no_bit b n low i h up =
+    ap (λ x. x == 1) (bit_at_above ((if b then 2 ^ n else 0) + low) (suc n) i (more-lt b n low h) (omega arith))
 
 in_front : (n i : ℕ) (b : Bool) → i < n → (nat_lt i n && b) ≡ (nat_lt i (suc n) && b)
 in_front n i b h = grind (arith, nat_tests)
@@ -51,7 +54,8 @@ at_end n i b h = grind (arith, nat_tests)
 pub outside : (n i : ℕ) (b : Bool) → n ≤ i → false ≡ (nat_lt i n && b)
 outside n i b h = grind (arith, nat_tests)
 
-step : (p : ℕ → Bool) (n i low : ℕ) → low < 2 ^ n → (bit_at low i == 1) ≡ (nat_lt i n && p i) → (bit_at ((if p n then 2 ^ n else 0) + low) i == 1) ≡ (nat_lt i (suc n) && p i)
+step : (p : ℕ → Bool) (n i low : ℕ) → low < 2 ^ n → (bit_at low i == 1) ≡ (nat_lt i n && p i)
+    → (bit_at ((if p n then 2 ^ n else 0) + low) i == 1) ≡ (nat_lt i (suc n) && p i)
 step p n i low small before =
     elim (cases_lt i n) [
       | inl below ↦ ap (λ x. x == 1) (low_bit (p n) n low i below) ∙ before ∙ in_front n i (p i) below
@@ -59,7 +63,8 @@ step p n i low small before =
         | inl above ↦ no_bit (p n) n low i small above ∙ outside (suc n) i (p i) (omega arith)
         | inr at ↦
             let same : i ≡ n = omega arith in
-            ap (λ k. bit_at ((if p n then 2 ^ n else 0) + low) k == 1) same ∙ top_bit (p n) n low small ∙ ap p (sym same) ∙ at_end n i (p i) same
+            ap (λ k. bit_at ((if p n then 2 ^ n else 0) + low) k == 1) same ∙ top_bit (p n) n low small
+            ∙ ap p (sym same) ∙ at_end n i (p i) same
       ]
     ]
 
@@ -79,11 +84,14 @@ abbrev pub member : Vectors → ℕ → ℕ → Bool
 member s k i = set.contains s (64 * k + i)
 
 -- a word of four is that of the set
-pub word-is : (words : List ℕ) (value : Vectors) (k : ℕ) → word_members words ≡ value → k < 4 → slice_index_or words k 0 < 2 ^ 64 → slice_index_or words k 0 ≡ word_of value k
+pub word-is : (words : List ℕ) (value : Vectors) (k : ℕ) → word_members words ≡ value → k < 4
+    → slice_index_or words k 0 < 2 ^ 64 → slice_index_or words k 0 ≡ word_of value k
 word-is words value k is h fits =
-    same_from_bits_below 64 (slice_index_or words k 0) (word_of value k) fits (bits_where-lt (member value k) 64) (λ i low.
+    same_from_bits_below 64 (slice_index_or words k 0) (word_of value k) fits (bits_where-lt (member value k) 64)
+    (λ i low.
     same_digit _ _ (bit_at-lt (slice_index_or words k 0) i) (bit_at-lt (word_of value k) i) (sym (
-    bit_at-bits_where (member value k) 64 i ∙ sym (low_place i low) ∙ ap (λ (s : Vectors). set.contains s (64 * k + i)) (sym is) ∙ contains-word_members words (64 * k + i)
+    bit_at-bits_where (member value k) 64 i ∙ sym (low_place i low)
+    ∙ ap (λ (s : Vectors). set.contains s (64 * k + i)) (sym is) ∙ contains-word_members words (64 * k + i)
     ∙ within (64 * k + i) (holds words (64 * k + i)) (omega arith)
     ∙ (λ j. bit_at (slice_index_or words (quotient i low j) 0) (remainder i low j) == 1))))
   where

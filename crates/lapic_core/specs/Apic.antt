@@ -51,7 +51,11 @@ with_suspension a mark = record a { suspended = mark }
 
 -- the vector leaves the requests, and enters service unless it is auto-EOI
 abbrev pub take_vector : Bool → ℕ → Apic → Apic
-take_vector auto v a = record a { requested = set.remove a.requested v; in_service = if auto then a.in_service else set.insert a.in_service v }
+take_vector auto v a =
+    record a {
+      requested = set.remove a.requested v;
+      in_service = if auto then a.in_service else set.insert a.in_service v;
+    }
 
 -- the next vector is taken
 abbrev pub after_take : Bool → Apic → Apic

@@ -73,7 +73,12 @@ impl Lapic {
         task_priority: u8,
         suspended: bool,
     ) -> Lapic
-        ensures { result ≡ record { requested = requested; in_service = in_service; task_priority = task_priority; suspended = suspended } }
+        ensures { result ≡ record {
+          requested = requested;
+          in_service = in_service;
+          task_priority = task_priority;
+          suspended = suspended;
+        } }
     {
         let floor = floor_of(suspended, task_priority);
         let threshold = threshold_of(highest_of(&in_service), floor);
@@ -273,7 +278,8 @@ fn highest_of(set: &VectorSet) -> Option<Vector>
 /// classes of the floor and of the greatest vector in service.
 #[inline(always)]
 fn threshold_of(highest: Option<Vector>, floor: u8) -> u8
-    ensures { (in_service requested : Vectors) → highest ≡ greatest in_service → result ≡ threshold (serving in_service floor requested) }
+    ensures { (in_service requested : Vectors) → highest ≡ greatest in_service
+        → result ≡ threshold (serving in_service floor requested) }
 {
     match highest {
         Some(vector) => last_of_class(floor.max(vector.number())),

@@ -9,6 +9,8 @@ ghost use Rattle.lapic_core.specs.Apic.{Apic, next, request, with_task_priority,
 pub fn an_end_may_wait()
     ensures quiet { (a : Apic) → is_no_end_required a ≡ true → (next a ≡ None) × (next (after_end a) ≡ None) }
     ensures request { (a : Apic) (v : ℕ) → after_end (request a v) ≡ request (after_end a) v }
-    ensures priority { (a : Apic) (value : ℕ) → after_end (with_task_priority a value) ≡ with_task_priority (after_end a) value }
-    ensures suspension { (a : Apic) (mark : Bool) → after_end (with_suspension a mark) ≡ with_suspension (after_end a) mark }
+    ensures priority { (a : Apic) (value : ℕ)
+        → after_end (with_task_priority a value) ≡ with_task_priority (after_end a) value }
+    ensures suspension { (a : Apic) (mark : Bool)
+        → after_end (with_suspension a mark) ≡ with_suspension (after_end a) mark }
 {}

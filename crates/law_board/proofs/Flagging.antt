@@ -52,9 +52,12 @@ none-joined xs ys h k p i flag = joined xs ∙ neither (h p i flag) (k p i flag)
     or-assoc true b c = refl
     or-assoc false b c = refl
 
-    joined : (zs : List Notice) → has_flag_notice p i flag (zs ++ ys) ≡ (has_flag_notice p i flag zs || has_flag_notice p i flag ys)
+    joined : (zs : List Notice)
+        → has_flag_notice p i flag (zs ++ ys) ≡ (has_flag_notice p i flag zs || has_flag_notice p i flag ys)
     joined [] = refl
-    joined (z ∷ zs) = ap (λ b. is_flag_notice p i flag z || b) (joined zs) ∙ or-assoc (is_flag_notice p i flag z) (has_flag_notice p i flag zs) (has_flag_notice p i flag ys)
+    joined (z ∷ zs) =
+        ap (λ b. is_flag_notice p i flag z || b) (joined zs)
+        ∙ or-assoc (is_flag_notice p i flag z) (has_flag_notice p i flag zs) (has_flag_notice p i flag ys)
 
 none-withdrawn : (q j : ℕ) (tickets : List ℕ) → TellNone (map (λ t. Withdrawn q j t) tickets)
 none-withdrawn q j [] p i flag = refl
@@ -74,8 +77,16 @@ mute = record {
   joins = λ s e f a b. record { none = none-joined e.1 f.1 a.none b.none };
   requests = λ s p v _. record { none = λ _ _ _. refl };
   accepts = λ s p i m. record { none = λ _ _ _. refl };
-  locations = λ s p i m rest _ _. record { none = either (λ ns. TellNone (Placed p i (ticket_of m) ∷ ns)) (nat_lt 0 (length rest)) (Pending p i ∷ []) [] (λ _ _ _ _. refl) (λ _ _ _ _. refl) };
-  marks = λ s p i. record { none = either TellNone (is_pending (space_of s) p i) [] (Pending p i ∷ []) (λ _ _ _ _. refl) (λ _ _ _ _. refl) };
+  locations = λ s p i m rest _ _.
+      record {
+        none = either (λ ns. TellNone (Placed p i (ticket_of m) ∷ ns)) (nat_lt 0 (length rest))
+            (Pending p i ∷ []) [] (λ _ _ _ _. refl) (λ _ _ _ _. refl);
+      };
+  marks = λ s p i.
+      record {
+        none = either TellNone (is_pending (space_of s) p i) [] (Pending p i ∷ []) (λ _ _ _ _. refl)
+            (λ _ _ _ _. refl);
+      };
   consumes = λ s p i t _. record { none = λ _ _ _. refl };
   withdraws = λ s p i port. record { none = none-withdrawn p i (withdrawn_of port (queue_of s.queues p i)) };
   frees = λ s p i t. record { none = λ _ _ _. refl };
@@ -86,9 +97,11 @@ mute = record {
 -- an event emits FlagSet iff it is a signal that found the flag clear, and then the flag is set
 record IsFlagged (s : State) (event : Event) (outcome : Outcome) : Type 0 where
   pub emitted : (p i flag : ℕ) → has_flag_notice p i flag outcome.2 ≡ found_clear s p i flag event outcome.1
-  pub stands : (p i flag : ℕ) → IsSound s → p < processors s → i < 16 → flag < 2048 → has_flag_notice p i flag outcome.2 ≡ true → is_flag_set (space_of outcome.0) p i flag ≡ true
+  pub stands : (p i flag : ℕ) → IsSound s → p < processors s → i < 16 → flag < 2048
+      → has_flag_notice p i flag outcome.2 ≡ true → is_flag_set (space_of outcome.0) p i flag ≡ true
 
-silent : (s : State) (event : Event) (outcome : Outcome) → TellNone outcome.2 → ((p i flag : ℕ) → found_clear s p i flag event outcome.1 ≡ false) → IsFlagged s event outcome
+silent : (s : State) (event : Event) (outcome : Outcome) → TellNone outcome.2
+    → ((p i flag : ℕ) → found_clear s p i flag event outcome.1 ≡ false) → IsFlagged s event outcome
 silent s event outcome none never = record {
   emitted = λ p i flag. none p i flag ∙ sym (never p i flag);
   stands = λ p i flag _ _ _ _ emitted. let no : true ≡ false = sym emitted ∙ none p i flag in absurd (cc);
@@ -99,21 +112,30 @@ refusing true b = refl
 refusing false b = refl
 
 refuses : (s : State) (event : Event) (r : Refusal) → IsFlagged s event (refused s r)
-refuses s event r = silent s event (refused s r) (λ _ _ _. refl) (λ p i flag. refusing (signals_flag s p i flag event) (not (is_flag_set (space_of s) p i flag)))
+refuses s event r =
+    silent s event (refused s r) (λ _ _ _. refl)
+    (λ p i flag. refusing (signals_flag s p i flag event) (not (is_flag_set (space_of s) p i flag)))
 
 faults : (s : State) (event : Event) → IsFlagged s event (unchanged s replies.GeneralProtection)
-faults s event = silent s event (unchanged s replies.GeneralProtection) (λ _ _ _. refl) (λ p i flag. refusing (signals_flag s p i flag event) (not (is_flag_set (space_of s) p i flag)))
+faults s event =
+    silent s event (unchanged s replies.GeneralProtection) (λ _ _ _. refl)
+    (λ p i flag. refusing (signals_flag s p i flag event) (not (is_flag_set (space_of s) p i flag)))
 
 no-signal : (s : State) (p i flag : ℕ) (event : Event) → IsNoSignal event → signals_flag s p i flag event ≡ false
 no-signal s p i flag (Signal port number) is = absurd is
 no-signal s p i flag event is = refl
 
 -- the effect of an event that is no signal
-other : (s : State) (event : Event) (reply : Reply) (e : Effect) → IsNoSignal event → TellNone e.1 → IsFlagged s event (answered reply e)
-other s event reply e is none = silent s event (answered reply e) none (λ p i flag. ap (λ b. b && is_performed reply && not (is_flag_set (space_of s) p i flag)) (no-signal s p i flag event is))
+other : (s : State) (event : Event) (reply : Reply) (e : Effect) → IsNoSignal event → TellNone e.1
+    → IsFlagged s event (answered reply e)
+other s event reply e is none =
+    silent s event (answered reply e) none
+    (λ p i flag. ap (λ b. b && is_performed reply && not (is_flag_set (space_of s) p i flag))
+    (no-signal s p i flag event is))
 
 -- the same flag
-here : (s : State) (p i flag q j lit : ℕ) → (p == q && i == j && flag == lit) ≡ true → is_flag_set (space_of s) p i flag ≡ is_flag_set (space_of s) q j lit
+here : (s : State) (p i flag q j lit : ℕ) → (p == q && i == j && flag == lit) ≡ true
+    → is_flag_set (space_of s) p i flag ≡ is_flag_set (space_of s) q j lit
 here s p i flag q j lit e =
     let same_p : p ≡ q = grind (arith, nat_tests) in
     let same_i : i ≡ j = grind (arith, nat_tests) in
@@ -124,14 +146,18 @@ repeated : (test set : Bool) → (test ≡ true → set ≡ true) → (test && t
 repeated true set h = ap not (h refl)
 repeated false set h = refl
 
-repeats : (s : State) (port number q j lit : ℕ) → flag_place_of (ports_of s) port number ≡ Ok (q, j, lit) → is_flag_set (space_of s) q j lit ≡ true →
+repeats : (s : State) (port number q j lit : ℕ) → flag_place_of (ports_of s) port number ≡ Ok (q, j, lit)
+    → is_flag_set (space_of s) q j lit ≡ true →
     IsFlagged s (Signal port number) (unchanged (with_flag s q j lit) replies.FlagWasSet)
-repeats s port number q j lit place stands = silent s (Signal port number) (unchanged (with_flag s q j lit) replies.FlagWasSet) (λ _ _ _. refl) (λ p i flag.
+repeats s port number q j lit place stands =
+    silent s (Signal port number) (unchanged (with_flag s q j lit) replies.FlagWasSet) (λ _ _ _. refl) (λ p i flag.
     ap (λ r. is_place p i flag r && true && not (is_flag_set (space_of s) p i flag)) place
-    ∙ repeated (p == q && i == j && flag == lit) (is_flag_set (space_of s) p i flag) (λ e. here s p i flag q j lit e ∙ stands))
+    ∙ repeated (p == q && i == j && flag == lit) (is_flag_set (space_of s) p i flag)
+    (λ e. here s p i flag q j lit e ∙ stands))
 
 -- a flag that was set is set afterwards
-flag-stands : (s : State) (p i flag : ℕ) → IsSound s → p < processors s → i < 16 → flag < 2048 → is_flag_set (space_of (with_flag s p i flag)) p i flag ≡ true
+flag-stands : (s : State) (p i flag : ℕ) → IsSound s → p < processors s → i < 16 → flag < 2048
+    → is_flag_set (space_of (with_flag s p i flag)) p i flag ≡ true
 flag-stands s p i flag h below inside bound =
     let page : List ℕ = own_page (space_of s) p Sief in
     let at : ℕ = flag_place i flag in
@@ -140,16 +166,20 @@ flag-stands s p i flag h below inside bound =
     let within : 2 * p + 1 < length s.own = omega (arith, h.whole.own, below) in
     let long : length page ≡ 4096 = h.whole.pages (2 * p + 1) [] within in
     let bit : bit_at (bit_or byte (2 ^ (flag % 8))) (flag % 8) ≡ 1 = bit_at_or byte (2 ^ (flag % 8)) (flag % 8)
-    ∙ ap (max (bit_at byte (flag % 8))) (bit_at-pow_same (flag % 8)) ∙ max-eq_right (omega (arith, bit_at-lt byte (flag % 8))) in
+    ∙ ap (max (bit_at byte (flag % 8))) (bit_at-pow_same (flag % 8))
+    ∙ max-eq_right (omega (arith, bit_at-lt byte (flag % 8))) in
     ap (λ (l : List ℕ). is_set l at (flag % 8)) (get_or-set_same s.own (2 * p + 1) new [] within)
-    ∙ ap (λ b. bit_at b (flag % 8) == 1) (get_or-set_same page at (bit_or byte (2 ^ (flag % 8))) 0 (omega (arith, long, inside, bound)))
+    ∙ ap (λ b. bit_at b (flag % 8) == 1)
+    (get_or-set_same page at (bit_or byte (2 ^ (flag % 8))) 0 (omega (arith, long, inside, bound)))
     ∙ ap (λ b. b == 1) bit
 
 raised-own : (s : State) (p i : ℕ) → (raised s p i).0.own ≡ s.own
-raised-own s p i = elim (raised_by (regs_of s p) i) as (λ o. (option_map_or (requested s p) o (nothing s)).0.own ≡ s.own) [
-  | None ↦ refl
-  | Some v ↦ either (λ (e : Effect). e.0.own ≡ s.own) (members.contains (apic_of s p).requested v) (nothing s) (request_made s p v) (λ _. refl) (λ _. refl)
-]
+raised-own s p i =
+    elim (raised_by (regs_of s p) i) as (λ o. (option_map_or (requested s p) o (nothing s)).0.own ≡ s.own) [
+      | None ↦ refl
+      | Some v ↦ either (λ (e : Effect). e.0.own ≡ s.own) (members.contains (apic_of s p).requested v) (nothing s)
+          (request_made s p v) (λ _. refl) (λ _. refl)
+    ]
 
 -- a signal that finds a flag clear
 found : (test rest set : Bool) → rest ≡ false → (test ≡ true → set ≡ false) → (test || rest) ≡ (test && true && not set)
@@ -160,22 +190,29 @@ test-emitted : (test rest : Bool) → rest ≡ false → (test || rest) ≡ true
 test-emitted true rest none e = refl
 test-emitted false rest none e = let no : true ≡ false = sym e ∙ none in absurd (cc)
 
-signals : (s : State) (port number q j lit : ℕ) → flag_place_of (ports_of s) port number ≡ Ok (q, j, lit) → is_flag_set (space_of s) q j lit ≡ false →
+signals : (s : State) (port number q j lit : ℕ) → flag_place_of (ports_of s) port number ≡ Ok (q, j, lit)
+    → is_flag_set (space_of s) q j lit ≡ false →
     IsMute (with_flag s q j lit) (raised (with_flag s q j lit) q j)
-    → IsFlagged s (Signal port number) (answered replies.FlagWasClear (after (flagged s q j lit) (raised (with_flag s q j lit) q j)))
+    → IsFlagged s (Signal port number)
+    (answered replies.FlagWasClear (after (flagged s q j lit) (raised (with_flag s q j lit) q j)))
 signals s port number q j lit place clear h = record {
   emitted = λ p i flag.
-      found (p == q && i == j && flag == lit) (has_flag_notice p i flag (raised (with_flag s q j lit) q j).1) (is_flag_set (space_of s) p i flag) (h.none p i flag)
+      found (p == q && i == j && flag == lit) (has_flag_notice p i flag (raised (with_flag s q j lit) q j).1)
+      (is_flag_set (space_of s) p i flag) (h.none p i flag)
       (λ e. here s p i flag q j lit e ∙ clear)
       ∙ sym (ap (λ r. is_place p i flag r && true && not (is_flag_set (space_of s) p i flag)) place);
   stands = λ p i flag sound below inside bound emitted.
-      let e : (p == q && i == j && flag == lit) ≡ true = test-emitted (p == q && i == j && flag == lit) (has_flag_notice p i flag (raised (with_flag s q j lit) q j).1) (h.none p i flag) emitted in
+      let e : (p == q && i == j && flag == lit) ≡ true =
+      test-emitted (p == q && i == j && flag == lit)
+      (has_flag_notice p i flag (raised (with_flag s q j lit) q j).1) (h.none p i flag) emitted in
       let same_p : p ≡ q = grind (arith, nat_tests) in
       let same_i : i ≡ j = grind (arith, nat_tests) in
       let same_flag : flag ≡ lit = grind (arith, nat_tests) in
       here (raised (with_flag s q j lit) q j).0 p i flag q j lit e
-      ∙ ap (λ (own : List (List ℕ)). is_set (get_or own (2 * q + 1) []) (flag_place j lit) (lit % 8)) (raised-own (with_flag s q j lit) q j)
-      ∙ flag-stands s q j lit sound (subst (λ n. n < processors s) same_p below) (subst (λ n. n < 16) same_i inside) (subst (λ n. n < 2048) same_flag bound);
+      ∙ ap (λ (own : List (List ℕ)). is_set (get_or own (2 * q + 1) []) (flag_place j lit) (lit % 8))
+      (raised-own (with_flag s q j lit) q j)
+      ∙ flag-stands s q j lit sound (subst (λ n. n < processors s) same_p below) (subst (λ n. n < 16) same_i inside)
+      (subst (λ n. n < 2048) same_flag bound);
 }
 
 flags : (s : State) (event : Event) → IsFlagged s event (step s event)
@@ -192,12 +229,15 @@ flags = throughout IsMute IsFlagged mute (record {
   repeats = repeats;
   signals = signals;
   pauses = λ s event p mark is _. other s event _ (nothing (with_suspension s p mark)) is.2 (λ _ _ _. refl);
-  resets = λ s p _ h. let e : Effect = emptied s p in other s (Reset p) _ (after e (cleared e.0 p, [])) tt (none-joined e.1 [] h.none (λ _ _ _. refl));
+  resets = λ s p _ h. let e : Effect = emptied s p in
+      other s (Reset p) _ (after e (cleared e.0 p, [])) tt (none-joined e.1 [] h.none (λ _ _ _. refl));
 })
 
-pub emitted-flag : (s : State) (event : Event) (p i flag : ℕ) → has_flag_notice p i flag (step s event).2 ≡ found_clear s p i flag event (step s event).1
+pub emitted-flag : (s : State) (event : Event) (p i flag : ℕ)
+    → has_flag_notice p i flag (step s event).2 ≡ found_clear s p i flag event (step s event).1
 emitted-flag s event = (flags s event).emitted
 
-pub flag-set : (s : State) (event : Event) (p i flag : ℕ) → IsSound s → p < processors s → i < 16 → flag < 2048 → has_flag_notice p i flag (step s event).2 ≡ true →
+pub flag-set : (s : State) (event : Event) (p i flag : ℕ) → IsSound s → p < processors s → i < 16 → flag < 2048
+    → has_flag_notice p i flag (step s event).2 ≡ true →
     is_flag_set (space_of (step s event).0) p i flag ≡ true
 flag-set s event = (flags s event).stands

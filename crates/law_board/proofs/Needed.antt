@@ -34,19 +34,26 @@ one-itself t = grind (arith, nat_tests)
 abbrev one_if : Bool → ℕ
 one_if b = cond b 1 0
 
-ascends-last : (next : ℕ) (q : List Message) (m : Message) → Ascends next (q ++ m ∷ []) → All (λ x. ticket_of x < ticket_of m) q
+ascends-last : (next : ℕ) (q : List Message) (m : Message) → Ascends next (q ++ m ∷ [])
+    → All (λ x. ticket_of x < ticket_of m) q
 ascends-last next [] m h = All-nil (λ x. ticket_of x < ticket_of m)
 ascends-last next (x ∷ q) m h =
-    All-cons (λ y. ticket_of y < ticket_of m) x q (All-pop (λ y. ticket_of x < ticket_of y) (q ++ m ∷ []) q (Some m) refl h.1).1 (ascends-last next q m h.2)
+    All-cons (λ y. ticket_of y < ticket_of m) x q
+    (All-pop (λ y. ticket_of x < ticket_of y) (q ++ m ∷ []) q (Some m) refl h.1).1 (ascends-last next q m h.2)
 
-pub may-join : (s : State) (p i : ℕ) (m : Message) → p < processors s → i < 16 → IsSound s → IsSound (with_message s p i m) → HasBuffers (with_message s p i m) → MayJoin s p i m
+pub may-join : (s : State) (p i : ℕ) (m : Message) → p < processors s → i < 16 → IsSound s
+    → IsSound (with_message s p i m) → HasBuffers (with_message s p i m) → MayJoin s p i m
 may-join s p i m below under before sound buffers = record {
   message = last IsMessage (queue-good (processors s) now p i sound.whole below under);
   home = home;
   buffer = room m refl home;
   share = share m refl;
-  ticket = record { given = given (cases_lt (ticket_of m) s.next_ticket); nowhere = omega (arith, moved (ticket_of m), one-itself (ticket_of m), sound.tickets.once (ticket_of m)) };
-  order = ascends-last s.next_ticket (queue_of s.queues p i) m (subst (Ascends s.next_ticket) (get_or-set_same s.queues j q [] inside) (buffers.timed.order j));
+  ticket = record {
+    given = given (cases_lt (ticket_of m) s.next_ticket);
+    nowhere = omega (arith, moved (ticket_of m), one-itself (ticket_of m), sound.tickets.once (ticket_of m));
+  };
+  order = ascends-last s.next_ticket (queue_of s.queues p i) m
+      (subst (Ascends s.next_ticket) (get_or-set_same s.queues j q [] inside) (buffers.timed.order j));
   time = subst (λ k. HasExpired s.moment k m) place (last (HasExpired s.moment (j % 16)) (buffers.timed.timely j));
 }
   where
@@ -66,20 +73,32 @@ may-join s p i m below under before sound buffers = record {
     inside = omega (arith, before.whole.queues, below, under)
 
     last : (P : Message → Type 0) → All P (queue_of now.queues p i) → P m
-    last P all = (All-pop P q (queue_of s.queues p i) (Some m) refl (subst (All P) (get_or-set_same s.queues j q [] inside) all)).1
+    last P all =
+        (All-pop P q (queue_of s.queues p i) (Some m) refl
+        (subst (All P) (get_or-set_same s.queues j q [] inside) all)).1
 
     home : IsHome s.ports p i m
     home = last (IsHome s.ports p i) (buffers.home p i under)
 
     more : (f : Message → Bool) → f m ≡ true → found_in f now.queues ≡ found_in f s.queues + 1
-    more f e = omega (arith, sum_by-set (count_by f) s.queues j q [] inside, sum_by_push (λ x. cond (f x) 1 0) (queue_of s.queues p i) m, ap one_if e)
+    more f e = omega (
+      arith,
+      sum_by-set (count_by f) s.queues j q [] inside,
+      sum_by_push (λ x. cond (f x) 1 0) (queue_of s.queues p i) m,
+      ap one_if e,
+    )
 
     -- the port is among as many as the queues have buffers for
     reached : (port : ℕ) (x : Port) → port_at (ports_of s) port ≡ Some x → port < most_ports (processors_of s.queues)
-    reached port x is = omega (arith, port-below s port x is, buffers.ports, ap (λ n. most_ports (n / 16)) (length-set s.queues j q))
+    reached port x is =
+        omega (arith, port-below s port x is, buffers.ports, ap (λ n. most_ports (n / 16)) (length-set s.queues j q))
 
     room : (x : Message) → m ≡ x → IsHome s.ports p i x → HasBuffer s.queues x
-    room (FromPort ticket port kind payload) is at = (reached port _ at.1.1, omega (arith, buffers.room port, more (is_from_port port) (ap (is_from_port port) is ∙ itself port)))
+    room (FromPort ticket port kind payload) is at = (
+      reached port _ at.1.1,
+      omega
+          (arith, buffers.room port, more (is_from_port port) (ap (is_from_port port) is ∙ itself port)),
+    )
     room (FromTimer ticket t expiration) is at =
         let found : is_from_timer t m ≡ true = ap (is_from_timer t) is ∙ (λ k. itself t.0 k && itself t.1 k) in
         let none : timer_used s.queues t ≡ 0 = omega (arith, buffers.one_each t, more (is_from_timer t) found) in
@@ -87,12 +106,25 @@ may-join s p i m below under before sound buffers = record {
         (there, ap (λ n. n == 0) none)
 
     share : (x : Message) → m ≡ x → IsWithinShare s x
-    share (FromPort ticket port kind payload) is = λ k e. omega (arith, buffers.within port k e, more (is_from_port port) (ap (is_from_port port) is ∙ itself port))
+    share (FromPort ticket port kind payload) is =
+        λ k e. omega (
+          arith,
+          buffers.within port k e,
+          more (is_from_port port) (ap (is_from_port port) is ∙ itself port),
+        )
     share (FromTimer ticket t expiration) is = tt
 
     moved : (t : ℕ) → times t (locations now) ≡ times t (locations s) + one (ticket_of m) t
-    moved t = omega (arith, times-locations t s, times-locations t now, sum_by-set (in_queue t) s.queues j q [] inside, in_queue-push t (queue_of s.queues p i) m)
+    moved t = omega (
+      arith,
+      times-locations t s,
+      times-locations t now,
+      sum_by-set (in_queue t) s.queues j q [] inside,
+      in_queue-push t (queue_of s.queues p i) m,
+    )
 
     given : (ticket_of m < s.next_ticket) ⊎ (s.next_ticket ≤ ticket_of m) → ticket_of m < s.next_ticket
     given (inl low) = low
-    given (inr high) = absurd (omega (arith, moved (ticket_of m), one-itself (ticket_of m), sound.tickets.given_before (ticket_of m) high))
+    given (inr high) =
+        absurd
+        (omega (arith, moved (ticket_of m), one-itself (ticket_of m), sound.tickets.given_before (ticket_of m) high))

@@ -44,10 +44,12 @@ counted-after t s e f a b = record {
 }
 
 -- an effect that leaves the timer unchanged and emits no expiry of it
-still : (t : ℕ × ℕ) (s : State) (e : Effect) → timer_in (bank_of e.0) t ≡ timer_in (bank_of s) t → expiries t e.1 ≡ 0 → IsCounted t s e
+still : (t : ℕ × ℕ) (s : State) (e : Effect) → timer_in (bank_of e.0) t ≡ timer_in (bank_of s) t → expiries t e.1 ≡ 0
+    → IsCounted t s e
 still t s e same none = record {
   one_shot = λ h. ap (λ (x : Timer). is_periodic x.config) same ∙ h;
-  bound = λ _. let arms : armed e.0 t ≡ armed s t = ap (λ (x : Timer). if is_some x.due then 1 else 0) same in omega (arith, none, arms);
+  bound = λ _. let arms : armed e.0 t ≡ armed s t = ap (λ (x : Timer). if is_some x.due then 1 else 0) same in
+      omega (arith, none, arms);
 }
 
 -- the configuration of a one-shot that is written
@@ -64,19 +66,29 @@ period-enabled config = ap (λ n. n % 2 == 1) (halves config)
     halves config = omega arith
 
 period-normalized : (config : ℕ) → is_periodic (normalized config) ≡ is_periodic config
-period-normalized config = either (λ c. is_periodic c ≡ is_periodic config) (has_no_target config) (disabled config) config (λ _. period-disabled config) (λ _. refl)
+period-normalized config =
+    either (λ c. is_periodic c ≡ is_periodic config) (has_no_target config) (disabled config) config
+    (λ _. period-disabled config) (λ _. refl)
 
 period-config : (value : ℕ) → is_periodic (written_config value) ≡ is_periodic value
-period-config value = period-normalized (bit_and value 0xf1fff) ∙ ap (λ n. n == 1) (bit_at_and value 0xf1fff 1 ∙ min-eq_left (omega (arith, bit_at-lt value 1)))
+period-config value =
+    period-normalized (bit_and value 0xf1fff)
+    ∙ ap (λ n. n == 1) (bit_at_and value 0xf1fff 1 ∙ min-eq_left (omega (arith, bit_at-lt value 1)))
 
 period-count : (config count : ℕ) → is_periodic (written_count config count) ≡ is_periodic config
 period-count config count =
-    either (λ c. is_periodic c ≡ is_periodic config) (count == 0) (disabled config) (if enables_itself config then normalized (enabled config) else config) (λ _. period-disabled config)
-    (λ _. either (λ c. is_periodic c ≡ is_periodic config) (enables_itself config) (normalized (enabled config)) config (λ _. period-normalized (enabled config) ∙ period-enabled config) (λ _. refl))
+    either (λ c. is_periodic c ≡ is_periodic config) (count == 0) (disabled config)
+    (if enables_itself config then normalized (enabled config) else config) (λ _. period-disabled config)
+    (λ _. either (λ c. is_periodic c ≡ is_periodic config) (enables_itself config)
+    (normalized (enabled config)) config (λ _. period-normalized (enabled config) ∙ period-enabled config)
+    (λ _. refl))
 
 -- beyond the last timer none is replaced
-replaced-past : (s : State) (u : ℕ × ℕ) (x : Timer) → length s.timers ≤ number_of u → timer_in (bank_of (replaced s u x)) u ≡ idle_timer
-replaced-past s u x beyond = get_or_past (set s.timers (number_of u) x) (number_of u) idle_timer (let l = length-set s.timers (number_of u) x in omega (arith, l, beyond))
+replaced-past : (s : State) (u : ℕ × ℕ) (x : Timer) → length s.timers ≤ number_of u
+    → timer_in (bank_of (replaced s u x)) u ≡ idle_timer
+replaced-past s u x beyond =
+    get_or_past (set s.timers (number_of u) x) (number_of u) idle_timer
+    (let l = length-set s.timers (number_of u) x in omega (arith, l, beyond))
 
 one-at-most : (b : Bool) → (if b then 1 else 0) ≤ 1
 one-at-most true = omega arith
@@ -84,32 +96,47 @@ one-at-most false = omega arith
 
 -- the expiries of the timer in the notices of one expiry
 emitted-once : (t u : ℕ × ℕ) (signal : Option ℕ) (skipped : ℕ) → expiries t (expiry_notices u signal skipped) ≤ 1
-emitted-once t u signal skipped = omega (arith, expiries-joined t (expired_notices u signal) (skipped_notices u skipped), first signal, skipped-none t u skipped)
+emitted-once t u signal skipped =
+    omega (
+      arith,
+      expiries-joined t (expired_notices u signal) (skipped_notices u skipped),
+      first signal,
+      skipped-none t u skipped,
+    )
   where
     first : (o : Option ℕ) → expiries t (expired_notices u o) ≤ 1
     first None = omega arith
-    first (Some d) = either (λ (n : ℕ). 0 + n ≤ 1) (number_of u == number_of t) 1 0 (λ _. omega arith) (λ _. omega arith)
+    first (Some d) =
+        either (λ (n : ℕ). 0 + n ≤ 1) (number_of u == number_of t) 1 0 (λ _. omega arith) (λ _. omega arith)
 
 -- a one-shot that expires stays a one-shot and has no deadline
-expires-once : (x : Timer) (moment : ℕ) → is_periodic x.config ≡ false → (is_periodic (after_expiry x moment).0.config ≡ false) × (is_some (after_expiry x moment).0.due ≡ false)
+expires-once : (x : Timer) (moment : ℕ) → is_periodic x.config ≡ false
+    → (is_periodic (after_expiry x moment).0.config ≡ false) × (is_some (after_expiry x moment).0.due ≡ false)
 expires-once x moment h =
     let e : Expiring = expired x (unwrap_or x.due 0) moment in (
-      either (λ c. is_periodic c ≡ false) (is_periodic x.config) x.config (disabled x.config) (λ yes. let no : true ≡ false = sym yes ∙ h in absurd (cc)) (λ _. period-disabled x.config ∙ h),
-      either (λ (r : Expiring). is_some r.next ≡ false) (not (is_periodic x.config)) (once (unwrap_or x.due 0)) _ (λ _. refl) (λ yes. let no : true ≡ false = sym (ap not h) ∙ yes in absurd (cc)),
+      either (λ c. is_periodic c ≡ false) (is_periodic x.config) x.config (disabled x.config)
+          (λ yes. let no : true ≡ false = sym yes ∙ h in absurd (cc)) (λ _. period-disabled x.config ∙ h),
+      either (λ (r : Expiring). is_some r.next ≡ false) (not (is_periodic x.config)) (once (unwrap_or x.due 0)) _
+          (λ _. refl) (λ yes. let no : true ≡ false = sym (ap not h) ∙ yes in absurd (cc)),
     )
 
 -- its expiry
-counted-expiry : (t : ℕ × ℕ) (s : State) (u : ℕ × ℕ) → number_of u ≡ number_of t → is_due (timer_in (bank_of s) u) s.moment ≡ true → IsCounted t s (expiry_made s u)
+counted-expiry : (t : ℕ × ℕ) (s : State) (u : ℕ × ℕ) → number_of u ≡ number_of t
+    → is_due (timer_in (bank_of s) u) s.moment ≡ true → IsCounted t s (expiry_made s u)
 counted-expiry t s u same due =
     let x : Timer = timer_in (bank_of s) u in
     let now : timer_in (bank_of (expired_state s u)) t ≡ (after_expiry x s.moment).0 = expires-here s t u same due in
     let was : timer_in (bank_of s) t ≡ x = same-timer s t u same in
     record {
-      one_shot = λ h. ap (λ (y : Timer). is_periodic y.config) now ∙ (expires-once x s.moment (ap (λ (y : Timer). is_periodic y.config) (sym was) ∙ h)).0;
+      one_shot = λ h. ap (λ (y : Timer). is_periodic y.config) now
+          ∙ (expires-once x s.moment (ap (λ (y : Timer). is_periodic y.config) (sym was) ∙ h)).0;
       bound = λ h.
           let ends : armed (expired_state s u) t ≡ 0 = ap (λ (y : Timer). if is_some y.due then 1 else 0) now
-          ∙ ap (λ b. if b then 1 else 0) (expires-once x s.moment (ap (λ (y : Timer). is_periodic y.config) (sym was) ∙ h)).1 in
-          let begins : armed s t ≡ 1 = ap (λ (y : Timer). if is_some y.due then 1 else 0) was ∙ ap (λ b. if b then 1 else 0) (due-some x s.moment due) in
+          ∙ ap (λ b. if b then 1 else 0)
+          (expires-once x s.moment (ap (λ (y : Timer). is_periodic y.config) (sym was) ∙ h)).1 in
+          let begins : armed s t ≡ 1 =
+          ap (λ (y : Timer). if is_some y.due then 1 else 0) was
+          ∙ ap (λ b. if b then 1 else 0) (due-some x s.moment due) in
           omega (arith, ends, begins, emitted-once t u (expiry_at s u).signal (expiry_at s u).skipped);
     }
 
@@ -119,45 +146,63 @@ written t event = if writes_timer t event then 1 else 0
 
 record IsCountedEvent (t : ℕ × ℕ) (s : State) (event : Event) (outcome : Outcome) : Type 0 where
   pub one_shot : makes_periodic t event ≡ false → IsOneShot s t → IsOneShot outcome.0 t
-  pub bound : makes_periodic t event ≡ false → IsOneShot s t → expiries t outcome.2 + armed outcome.0 t ≤ armed s t + written t event
+  pub bound : makes_periodic t event ≡ false → IsOneShot s t
+      → expiries t outcome.2 + armed outcome.0 t ≤ armed s t + written t event
 
 -- an effect after a write of the timer
-writes-one : (t : ℕ × ℕ) (s : State) (event : Event) (reply : Reply) (u : ℕ × ℕ) (x : Timer) (e : Effect) → number_of u ≡ number_of t → writes_timer t event ≡ true
-    → (makes_periodic t event ≡ false → is_periodic (timer_in (bank_of s) u).config ≡ false → is_periodic x.config ≡ false) → IsCounted t (replaced s u x) e →
+writes-one : (t : ℕ × ℕ) (s : State) (event : Event) (reply : Reply) (u : ℕ × ℕ) (x : Timer) (e : Effect)
+    → number_of u ≡ number_of t → writes_timer t event ≡ true
+    → (makes_periodic t event ≡ false → is_periodic (timer_in (bank_of s) u).config ≡ false
+    → is_periodic x.config ≡ false) → IsCounted t (replaced s u x) e →
     IsCountedEvent t s event (answered reply e)
 writes-one t s event reply u x e same writes keeps h = record {
   one_shot = λ quiet o. h.one_shot (is quiet o);
-  bound = λ quiet o. let one : written t event ≡ 1 = ap (λ b. if b then 1 else 0) writes in omega (arith, h.bound (is quiet o), one-at-most (is_some (timer_in (bank_of (replaced s u x)) t).due), one);
+  bound = λ quiet o. let one : written t event ≡ 1 = ap (λ b. if b then 1 else 0) writes in
+      omega (arith, h.bound (is quiet o), one-at-most (is_some (timer_in (bank_of (replaced s u x)) t).due), one);
 }
   where
     is : makes_periodic t event ≡ false → IsOneShot s t → IsOneShot (replaced s u x) t
     is quiet o = within (cases_lt (number_of u) (length s.timers))
       where
         within : (number_of u < length s.timers) ⊎ (length s.timers ≤ number_of u) → IsOneShot (replaced s u x) t
-        within (inl low) = ap (λ (y : Timer). is_periodic y.config) (replaced-here s t u x same low) ∙ keeps quiet (ap (λ (y : Timer). is_periodic y.config) (sym (same-timer s t u same)) ∙ o)
-        within (inr beyond) = ap (λ (y : Timer). is_periodic y.config) (same-timer (replaced s u x) t u same ∙ replaced-past s u x beyond)
+        within (inl low) =
+            ap (λ (y : Timer). is_periodic y.config) (replaced-here s t u x same low)
+            ∙ keeps quiet (ap (λ (y : Timer). is_periodic y.config) (sym (same-timer s t u same)) ∙ o)
+        within (inr beyond) =
+            ap (λ (y : Timer). is_periodic y.config) (same-timer (replaced s u x) t u same ∙ replaced-past s u x beyond)
 
 -- a write of its configuration
-configures : (t : ℕ × ℕ) (s : State) (p n number value : ℕ) (e : Effect) → register_of number ≡ Some (TimerConfig n) → number_of (p, n) ≡ number_of t →
+configures : (t : ℕ × ℕ) (s : State) (p n number value : ℕ) (e : Effect) → register_of number ≡ Some (TimerConfig n)
+    → number_of (p, n) ≡ number_of t →
     IsCounted t (with_bank s (with_config (bank_of s) (p, n) value s.moment)) e
     → IsCountedEvent t s (Write p number value) (answered Done e)
 configures t s p n number value e is same =
-    writes-one t s (Write p number value) Done (p, n) (after_config (timer_in (bank_of s) (p, n)) value s.moment) e same (config-writes t p n number value is same)
+    writes-one t s (Write p number value) Done (p, n)
+    (after_config (timer_in (bank_of s) (p, n)) value s.moment) e same (config-writes t p n number value is same)
     (λ quiet _. period-config value
-    ∙ sym (ap (λ b. b && is_periodic value) (ap (λ (o : Option Register). option_map_or (is_config_of t p) o false) is ∙ same-number (number_of (p, n)) (number_of t) same)) ∙ quiet)
+    ∙ sym (ap (λ b. b && is_periodic value)
+    (ap (λ (o : Option Register). option_map_or (is_config_of t p) o false) is
+    ∙ same-number (number_of (p, n)) (number_of t) same)) ∙ quiet)
 
 -- and of its count
-counts : (t : ℕ × ℕ) (s : State) (p n number value : ℕ) (e : Effect) → register_of number ≡ Some (TimerCount n) → number_of (p, n) ≡ number_of t →
+counts : (t : ℕ × ℕ) (s : State) (p n number value : ℕ) (e : Effect) → register_of number ≡ Some (TimerCount n)
+    → number_of (p, n) ≡ number_of t →
     IsCounted t (with_bank s (with_count (bank_of s) (p, n) value s.moment)) e
     → IsCountedEvent t s (Write p number value) (answered Done e)
 counts t s p n number value e is same =
-    writes-one t s (Write p number value) Done (p, n) (after_count (timer_in (bank_of s) (p, n)) value s.moment) e same (count-writes t p n number value is same)
+    writes-one t s (Write p number value) Done (p, n)
+    (after_count (timer_in (bank_of s) (p, n)) value s.moment) e same (count-writes t p n number value is same)
     (λ _ o. period-count (timer_in (bank_of s) (p, n)).config value ∙ o)
 
 -- each event
 event-counted : (t : ℕ × ℕ) (s : State) (event : Event) → IsCountedEvent t s event (step s event)
 event-counted t =
-    throughout-timer t (IsCounted t) (IsCountedEvent t) (record { still = λ s e same none _. still t s e same none; joins = counted-after t; expires = counted-expiry t }) (record {
+    throughout-timer t (IsCounted t) (IsCountedEvent t)
+    (record {
+      still = λ s e same none _. still t s e same none;
+      joins = counted-after t;
+      expires = counted-expiry t;
+    }) (record {
       acts = λ s event reply e h. record { one_shot = λ _ o. h.one_shot o; bound = λ _ o. omega (arith, h.bound o) };
       configures = configures t;
       counts = counts t;
@@ -172,7 +217,8 @@ event-counted t =
     })
 
 -- and all of them
-pub bound-expiries : (s : State) (t : ℕ × ℕ) (events : List Event) → IsOneShot s t → All (λ event. makes_periodic t event ≡ false) events
+pub bound-expiries : (s : State) (t : ℕ × ℕ) (events : List Event) → IsOneShot s t
+    → All (λ event. makes_periodic t event ≡ false) events
     → expiries t (run_of s events).2 + armed (run_of s events).0 t ≤ armed s t + writes t events
 unfolding run_of
 bound-expiries s t [] o quiet = omega arith
@@ -180,5 +226,12 @@ bound-expiries s t (event ∷ events) o quiet =
     let now : State = (step s event).0 in
     let first = event-counted t s event in
     let calm : makes_periodic t event ≡ false = All-head (λ event. makes_periodic t event ≡ false) event events quiet in
-    let rest = bound-expiries now t events (first.one_shot calm o) (All-tail (λ event. makes_periodic t event ≡ false) event events quiet) in
-    omega (arith, expiries-joined t (step s event).2 (run_of now events).2, sum_by-cons (written t) event events, first.bound calm o, rest)
+    let rest = bound-expiries now t events (first.one_shot calm o)
+    (All-tail (λ event. makes_periodic t event ≡ false) event events quiet) in
+    omega (
+      arith,
+      expiries-joined t (step s event).2 (run_of now events).2,
+      sum_by-cons (written t) event events,
+      first.bound calm o,
+      rest,
+    )

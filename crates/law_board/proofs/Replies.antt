@@ -50,8 +50,12 @@ fits-load s address count = long (nat_lt 8 count) refl
     bytes : List ℕ
     bytes = take count (drop (address % 4096) (visible_page (space_of s) (address / 4096)))
 
-    answered : (r : Option Refusal) → count ≤ 8 → IsReply (load_reply (option_map_or (λ r. Err r) r (Ok (record { items = bytes }))))
-    answered None bound = let h = length-take count (drop (address % 4096) (visible_page (space_of s) (address / 4096))) in omega (arith, bound, h)
+    answered : (r : Option Refusal) → count ≤ 8
+        → IsReply (load_reply (option_map_or (λ r. Err r) r (Ok (record { items = bytes }))))
+    answered None bound =
+        let h =
+        length-take count (drop (address % 4096) (visible_page (space_of s) (address / 4096))) in
+        omega (arith, bound, h)
     answered (Some r) bound = tt
 
     long : (t : Bool) → nat_lt 8 count ≡ t → IsReply (read_bytes s address count)
@@ -61,7 +65,9 @@ fits-load s address count = long (nat_lt 8 count) refl
         either_true true = refl
         either_true false = refl
 
-        by : (t : Bool) (other : Option Refusal) → t ≡ true → IsReply (load_reply (option_map_or (λ r. Err r) (cond t (Some BadLength) other) (Ok (record { items = bytes }))))
+        by : (t : Bool) (other : Option Refusal) → t ≡ true
+            → IsReply
+            (load_reply (option_map_or (λ r. Err r) (cond t (Some BadLength) other) (Ok (record { items = bytes }))))
         by true other e = tt
         by false other e = cc
     long false is = answered (refusal_of (space_of s) address count) (ltb-false 8 count is)

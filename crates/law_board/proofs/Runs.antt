@@ -15,13 +15,15 @@ use Rattle.synic_board.proofs.keeping.Opened.{no-locations, sound-opened}
 use Rattle.synic_board.proofs.keeping.Steps.{keeps-step}
 use Rattle.synic_board.proofs.keeping.Settled.{settled-run, settled-opened}
 
-keeps-run : (n : ℕ) (s : State) (es : List Event) → All PayloadFits es → IsIntact n s → KeepsMessages n s ((run_of s es).0, (run_of s es).2)
+keeps-run : (n : ℕ) (s : State) (es : List Event) → All PayloadFits es → IsIntact n s
+    → KeepsMessages n s ((run_of s es).0, (run_of s es).2)
 unfolding run_of
 keeps-run n s [] fit h = messages-kept n s ((run_of s []).0, (run_of s []).2) (keeps-nothing n s h)
 keeps-run n s (e ∷ es) fit h =
     let now : State = (step s e).0 in
     let first = keeps-step n s e (All-head PayloadFits e es fit) h in
-    messages-after n s (now, (step s e).2) ((run_of now es).0, (run_of now es).2) first (keeps-run n now es (All-tail PayloadFits e es fit) first.kept)
+    messages-after n s (now, (step s e).2) ((run_of now es).0, (run_of now es).2) first
+    (keeps-run n now es (All-tail PayloadFits e es fit) first.kept)
 
 pub sound-from : (s : State) (es : List Event) → All PayloadFits es → IsSound s → IsSound (run_of s es).0
 sound-from s es fit h =
@@ -29,14 +31,17 @@ sound-from s es fit h =
     let k = keeps-run (processors s) s es fit (kept_from_sound s h) in
     sound_from_kept (processors s) r.0 k.kept (tickets-conserved s r.0 r.2 k.tickets_monotone k.conserves h.tickets)
 
-pub conserves-from : (s : State) (es : List Event) → All PayloadFits es → IsSound s → Conserves s (run_of s es).0 (run_of s es).2
+pub conserves-from : (s : State) (es : List Event) → All PayloadFits es → IsSound s
+    → Conserves s (run_of s es).0 (run_of s es).2
 conserves-from s es fit h = (keeps-run (processors s) s es fit (kept_from_sound s h)).conserves
 
 -- every reachable state is sound
-pub sound-run : (n pages first : ℕ) (es : List Event) → All PayloadFits es → IsSound (run_of (opened n pages first) es).0
+pub sound-run : (n pages first : ℕ) (es : List Event) → All PayloadFits es
+    → IsSound (run_of (opened n pages first) es).0
 sound-run n pages first es fit = sound-from (opened n pages first) es fit (sound-opened n pages first)
 
-pub accounts : (n pages first : ℕ) (es : List Event) → All PayloadFits es → Accounts (opened n pages first) (run_of (opened n pages first) es)
+pub accounts : (n pages first : ℕ) (es : List Event) → All PayloadFits es
+    → Accounts (opened n pages first) (run_of (opened n pages first) es)
 accounts n pages first es fit =
     let conserves = conserves-from (opened n pages first) es fit (sound-opened n pages first) in
     record {
@@ -44,5 +49,7 @@ accounts n pages first es fit =
       account = λ t. omega (arith, conserves t, no-locations n pages first t);
     }
 
-pub one-suspension : (n pages first : ℕ) (es : List Event) → n ≤ 64 → HasOneSuspension (run_of (opened n pages first) es).0
-one-suspension n pages first es bound = (settled-run (opened n pages first) es (settled-opened n pages first bound)).suspended
+pub one-suspension : (n pages first : ℕ) (es : List Event) → n ≤ 64
+    → HasOneSuspension (run_of (opened n pages first) es).0
+one-suspension n pages first es bound =
+    (settled-run (opened n pages first) es (settled-opened n pages first bound)).suspended

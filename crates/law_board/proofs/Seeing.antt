@@ -45,23 +45,38 @@ alike : (s : State) (p i : ℕ) → IsAlike s s p i
 alike s p i = record { regs = refl; queue = refl; slot = refl; pending = refl }
 
 alike-after : (s t u : State) (p i : ℕ) → IsAlike s t p i → IsAlike t u p i → IsAlike s u p i
-alike-after s t u p i a b = record { regs = b.regs ∙ a.regs; queue = b.queue ∙ a.queue; slot = b.slot ∙ a.slot; pending = b.pending ∙ a.pending }
+alike-after s t u p i a b =
+    record {
+      regs = b.regs ∙ a.regs;
+      queue = b.queue ∙ a.queue;
+      slot = b.slot ∙ a.slot;
+      pending = b.pending ∙ a.pending;
+    }
 
 stays-seen : (s t : State) (p i : ℕ) → IsAlike s t p i → IsSeen s p i → IsSeen t p i
 stays-seen s t p i same (inl none) = inl (same.queue ∙ none)
 stays-seen s t p i same (inr (full, marked)) = inr (ap (λ k. k == 0) same.slot ∙ full, same.pending ∙ marked)
 
 alike-requested : (s : State) (q v p i : ℕ) → IsAlike s (requested s q v).0 p i
-alike-requested s q v p i = either (λ (e : Effect). IsAlike s e.0 p i) (set.contains (apic_of s q).requested v) _ _ (λ _. alike s p i)
+alike-requested s q v p i =
+    either (λ (e : Effect). IsAlike s e.0 p i) (set.contains (apic_of s q).requested v) _ _ (λ _. alike s p i)
     (λ _. record { regs = refl; queue = refl; slot = refl; pending = refl })
 
 alike-raised : (s : State) (q j p i : ℕ) → IsAlike s (raised s q j).0 p i
-alike-raised s q j p i = elim (raised_by (regs_of s q) j) as (λ o. IsAlike s (option_map_or (requested s q) o (nothing s)).0 p i) [ None ↦ alike s p i | Some v ↦ alike-requested s q v p i ]
+alike-raised s q j p i =
+    elim (raised_by (regs_of s q) j) as
+    (λ o. IsAlike s (option_map_or (requested s q) o (nothing s)).0 p i) [
+      | None ↦ alike s p i
+      | Some v ↦
+          alike-requested s q v p i
+    ]
 
 -- the pending bit of a page in which a slot is written, of this source or another
 pending-other : (page bytes : List ℕ) (j i : ℕ) → length page ≡ 4096 → length bytes ≡ 256 → j < 16 → i < 16 → i ≢ j →
     is_set (with_slot page j bytes) (pending_place i) 0 ≡ is_set page (pending_place i) 0
-pending-other page bytes j i long size below under ne = ap (λ b. bit_at b 0 == 1) (outside page bytes j (256 * i + 5) (omega (arith, long, below)) size (apart (cases_lt i j)))
+pending-other page bytes j i long size below under ne =
+    ap (λ b. bit_at b 0 == 1)
+    (outside page bytes j (256 * i + 5) (omega (arith, long, below)) size (apart (cases_lt i j)))
   where
     apart : (i < j) ⊎ (j ≤ i) → (256 * i + 5 < 256 * j) ⊎ (256 * j + 256 ≤ 256 * i + 5)
     apart (inl less) = inl (omega (arith, less))
@@ -72,29 +87,41 @@ unfolding image
 pending-byte (FromPort ticket port kind payload) moment = refl
 pending-byte (FromTimer ticket timer expiration) moment = refl
 
-pending-written : (page : List ℕ) (i : ℕ) (m : Message) (pending : Bool) (moment : ℕ) → length page ≡ 4096 → i < 16 → length (image m pending moment) ≡ 256 →
+pending-written : (page : List ℕ) (i : ℕ) (m : Message) (pending : Bool) (moment : ℕ) → length page ≡ 4096 → i < 16
+    → length (image m pending moment) ≡ 256 →
     pending ≡ true → is_set (with_slot page i (image m pending moment)) (pending_place i) 0 ≡ true
 pending-written page i m pending moment long under size is =
-    ap (λ b. bit_at b 0 == 1) (inside page (image m pending moment) i 5 (omega (arith, long, under)) (omega (arith, size)) ∙ ap (λ b. get_or (image m b moment) 5 0) is ∙ pending-byte m moment)
+    ap (λ b. bit_at b 0 == 1)
+    (inside page (image m pending moment) i 5 (omega (arith, long, under)) (omega (arith, size))
+    ∙ ap (λ b. get_or (image m b moment) 5 0) is ∙ pending-byte m moment)
 
 -- MessagePending is set, of this source or another
 set-bit : (n : ℕ) → bit_at (bit_or n 1) 0 ≡ 1
 set-bit n = let h = bit_at_or n 1 0 in let k = bit_at-lt n 0 in omega (arith, h, k)
 
-pending-marked : (page : List ℕ) (i : ℕ) → length page ≡ 4096 → i < 16 → is_set (with_bit page (pending_place i) 0) (pending_place i) 0 ≡ true
+pending-marked : (page : List ℕ) (i : ℕ) → length page ≡ 4096 → i < 16
+    → is_set (with_bit page (pending_place i) 0) (pending_place i) 0 ≡ true
 pending-marked page i long under =
-    ap (λ b. bit_at b 0 == 1) (get_or-set_same page (256 * i + 5) (bit_or (slice_index_or page (256 * i + 5) 0) 1) 0 (omega (arith, long, under)))
+    ap (λ b. bit_at b 0 == 1)
+    (get_or-set_same page (256 * i + 5) (bit_or (slice_index_or page (256 * i + 5) 0) 1) 0
+    (omega (arith, long, under)))
     ∙ ap (λ b. b == 1) (set-bit (slice_index_or page (256 * i + 5) 0))
 
-pending-apart : (page : List ℕ) (j i : ℕ) → i ≢ j → is_set (with_bit page (pending_place j) 0) (pending_place i) 0 ≡ is_set page (pending_place i) 0
-pending-apart page j i ne = ap (λ b. bit_at b 0 == 1) (get_or-set_other page (256 * j + 5) (256 * i + 5) (bit_or (slice_index_or page (256 * j + 5) 0) 1) 0 (λ e. ne (omega (arith, e))))
+pending-apart : (page : List ℕ) (j i : ℕ) → i ≢ j
+    → is_set (with_bit page (pending_place j) 0) (pending_place i) 0 ≡ is_set page (pending_place i) 0
+pending-apart page j i ne =
+    ap (λ b. bit_at b 0 == 1)
+    (get_or-set_other page (256 * j + 5) (256 * i + 5) (bit_or (slice_index_or page (256 * j + 5) 0) 1) 0
+    (λ e. ne (omega (arith, e))))
 
 -- the message page that was written
-own : (n : ℕ) (s : State) (p : ℕ) (page : List ℕ) → IsIntact n s → p < n → slice_index_or (slice_set s.own (2 * p) page) (2 * p) [] ≡ page
+own : (n : ℕ) (s : State) (p : ℕ) (page : List ℕ) → IsIntact n s → p < n
+    → slice_index_or (slice_set s.own (2 * p) page) (2 * p) [] ≡ page
 own n s p page h below = get_or-set_same s.own (2 * p) page [] (omega (arith, h.whole.own, below))
 
 -- a message that is placed for one source, and another source
-alike-placed : (n : ℕ) (s : State) (p j i : ℕ) → IsIntact n s → p < n → j < 16 → i < 16 → i ≢ j → IsAlike s (placed s p j).0 p i
+alike-placed : (n : ℕ) (s : State) (p j i : ℕ) → IsIntact n s → p < n → j < 16 → i < 16 → i ≢ j
+    → IsAlike s (placed s p j).0 p i
 alike-placed n s p j i h below inside_ under ne = head (queue_of s.queues p j) refl
   where
     head : (q : List Message) → queue_of s.queues p j ≡ q → IsAlike s (placed_head s p j q).0 p i
@@ -107,9 +134,12 @@ alike-placed n s p j i h below inside_ under ne = head (queue_of s.queues p j) r
         let here = own n s p (with_slot (page_of s p) j bytes) h below in
         record {
           regs = refl;
-          queue = get_or-set_other s.queues (source_number p j) (source_number p i) rest [] (λ e. other_place p j p i inside_ under (λ _ same. ne (sym same)) (sym e));
-          slot = ap (λ page. slot_type page i) here ∙ slot_type-other (page_of s p) bytes j i long size inside_ under ne;
-          pending = ap (λ page. is_set page (pending_place i) 0) here ∙ pending-other (page_of s p) bytes j i long size inside_ under ne;
+          queue = get_or-set_other s.queues (source_number p j) (source_number p i) rest []
+              (λ e. other_place p j p i inside_ under (λ _ same. ne (sym same)) (sym e));
+          slot = ap (λ page. slot_type page i) here
+              ∙ slot_type-other (page_of s p) bytes j i long size inside_ under ne;
+          pending = ap (λ page. is_set page (pending_place i) 0) here
+              ∙ pending-other (page_of s p) bytes j i long size inside_ under ne;
         }
 
 alike-marked : (n : ℕ) (s : State) (p j i : ℕ) → IsIntact n s → p < n → i ≢ j → IsAlike s (marked s p j).0 p i
@@ -117,16 +147,19 @@ alike-marked n s p j i h below ne = record {
   regs = refl;
   queue = refl;
   slot = marked-type n s p j p i h.whole below;
-  pending = ap (λ page. is_set page (pending_place i) 0) (own n s p (with_bit (page_of s p) (pending_place j) 0) h below) ∙ pending-apart (page_of s p) j i ne;
+  pending = ap (λ page. is_set page (pending_place i) 0)
+      (own n s p (with_bit (page_of s p) (pending_place j) 0) h below) ∙ pending-apart (page_of s p) j i ne;
 }
 
-alike-tried : (n : ℕ) (s : State) (p j i : ℕ) → IsIntact n s → p < n → j < 16 → i < 16 → i ≢ j → IsAlike s (tried s p j).0 p i
+alike-tried : (n : ℕ) (s : State) (p j i : ℕ) → IsIntact n s → p < n → j < 16 → i < 16 → i ≢ j
+    → IsAlike s (tried s p j).0 p i
 unfolding tried
 alike-tried n s p j i h below inside_ under ne =
     let Alike = λ (e : Effect). IsAlike s e.0 p i in
     either Alike (delivers s p && nat_lt 0 (length (queue_of s.queues p j))) _ _
     (λ _. either Alike (is_slot_empty s p j) _ _
-    (λ _. alike-after s (placed s p j).0 (raised (placed s p j).0 p j).0 p i (alike-placed n s p j i h below inside_ under ne) (alike-raised (placed s p j).0 p j p i))
+    (λ _. alike-after s (placed s p j).0 (raised (placed s p j).0 p j).0 p i
+    (alike-placed n s p j i h below inside_ under ne) (alike-raised (placed s p j).0 p j p i))
     (λ _. alike-marked n s p j i h below ne))
     (λ _. alike s p i)
 
@@ -136,9 +169,11 @@ seen-placed n s p i h below under = head (queue_of s.queues p i) refl
   where
     head : (q : List Message) → queue_of s.queues p i ≡ q → IsSeen (placed_head s p i q).0 p i
     head [] is = inl is
-    head (m ∷ []) is = inl (get_or-set_same s.queues (source_number p i) [] [] (omega (arith, h.whole.queues, below, under)))
+    head (m ∷ []) is =
+        inl (get_or-set_same s.queues (source_number p i) [] [] (omega (arith, h.whole.queues, below, under)))
     head (m ∷ next ∷ rest) is =
-        let good = (tail-good m (next ∷ rest) (subst (λ q. All IsMessage q) is (queue-good n s p i h.whole below under))).0 in
+        let good = (tail-good m (next ∷ rest)
+        (subst (λ q. All IsMessage q) is (queue-good n s p i h.whole below under))).0 in
         let more : nat_lt 0 (length (next ∷ rest)) ≡ true = grind (arith, nat_tests) in
         let bytes : List ℕ = image_of s m (next ∷ rest) in
         let size : length bytes ≡ 256 = length-image m (nat_lt 0 (length (next ∷ rest))) s.moment good.2 in
@@ -146,23 +181,27 @@ seen-placed n s p i h below under = head (queue_of s.queues p i) refl
         inr (
           grind (arith, nat_tests, full),
           ap (λ page. is_set page (pending_place i) 0) (own n s p (with_slot (page_of s p) i bytes) h below)
-              ∙ pending-written (page_of s p) i m (nat_lt 0 (length (next ∷ rest))) s.moment (page-long n s p h.whole below) under size more,
+              ∙ pending-written (page_of s p) i m (nat_lt 0 (length (next ∷ rest))) s.moment
+              (page-long n s p h.whole below) under size more,
         )
 
-seen-tried : (n : ℕ) (s : State) (p i : ℕ) → IsIntact n s → p < n → i < 16 → delivers s p ≡ true → IsSeen (tried s p i).0 p i
+seen-tried : (n : ℕ) (s : State) (p i : ℕ) → IsIntact n s → p < n → i < 16 → delivers s p ≡ true
+    → IsSeen (tried s p i).0 p i
 unfolding tried
 seen-tried n s p i h below under on =
     let Seen = λ (e : Effect). IsSeen e.0 p i in
     either Seen (delivers s p && nat_lt 0 (length (queue_of s.queues p i))) _ _
     (λ _. either Seen (is_slot_empty s p i) _ _
-    (λ _. stays-seen (placed s p i).0 (raised (placed s p i).0 p i).0 p i (alike-raised (placed s p i).0 p i p i) (seen-placed n s p i h below under))
+    (λ _. stays-seen (placed s p i).0 (raised (placed s p i).0 p i).0 p i (alike-raised (placed s p i).0 p i p i)
+    (seen-placed n s p i h below under))
     (λ full. inr (
       ap (λ k. k == 0) (marked-type n s p i p i h.whole below)
           ∙ full,
       ap (λ page. is_set page (pending_place i) 0) (own n s p (with_bit (page_of s p) (pending_place i) 0) h below)
           ∙ pending-marked (page_of s p) i (page-long n s p h.whole below) under,
     )))
-    (λ idle. inl (none (queue_of s.queues p i) (ap (λ b. b && nat_lt 0 (length (queue_of s.queues p i))) (sym on) ∙ idle)))
+    (λ idle. inl (none (queue_of s.queues p i)
+    (ap (λ b. b && nat_lt 0 (length (queue_of s.queues p i))) (sym on) ∙ idle)))
   where
     none : (q : List Message) → nat_lt 0 (length q) ≡ false → q ≡ []
     none [] e = refl
@@ -188,7 +227,8 @@ record AreSeen (s t : State) (p n : ℕ) : Type 0 where
   pub regs : t.regs ≡ s.regs
   pub each : (i : ℕ) → i < n → IsSeen t p i
 
-seen-below : (n : ℕ) (s : State) (p k : ℕ) → IsIntact n s → p < n → k ≤ 16 → delivers s p ≡ true → AreSeen s (tried_below s p k).0 p k
+seen-below : (n : ℕ) (s : State) (p k : ℕ) → IsIntact n s → p < n → k ≤ 16 → delivers s p ≡ true
+    → AreSeen s (tried_below s p k).0 p k
 unfolding tried_below
 seen-below n s p zero h below bound on = record { regs = refl; each = λ i less. absurd (omega (arith, less)) }
 seen-below n s p (suc k) h below bound on =
@@ -198,15 +238,18 @@ seen-below n s p (suc k) h below bound on =
     let still : delivers t p ≡ true = ap (λ regs. delivers (record t { regs = regs }) p) first.regs ∙ on in
     record { regs = regs-tried t p k ∙ first.regs; each = λ i less. each i less (cases_eq i k) first intact still }
   where
-    each : (i : ℕ) → i < suc k → (i ≡ k) ⊎ (i ≢ k) → AreSeen s (tried_below s p k).0 p k → IsIntact n (tried_below s p k).0 → delivers (tried_below s p k).0 p ≡ true →
+    each : (i : ℕ) → i < suc k → (i ≡ k) ⊎ (i ≢ k) → AreSeen s (tried_below s p k).0 p k
+        → IsIntact n (tried_below s p k).0 → delivers (tried_below s p k).0 p ≡ true →
         IsSeen (tried (tried_below s p k).0 p k).0 p i
     each i less (inl same) first intact still = subst (λ j. IsSeen (tried (tried_below s p k).0 p k).0 p j) (sym same)
         (seen-tried n (tried_below s p k).0 p k intact below (omega (arith, bound)) still)
     each i less (inr ne) first intact still =
         stays-seen (tried_below s p k).0 (tried (tried_below s p k).0 p k).0 p i
-        (alike-tried n (tried_below s p k).0 p k i intact below (omega (arith, bound)) (omega (arith, bound, less)) ne) (first.each i (omega (arith, less, ne)))
+        (alike-tried n (tried_below s p k).0 p k i intact below (omega (arith, bound))
+        (omega (arith, bound, less)) ne) (first.each i (omega (arith, less, ne)))
 
-pub seen-behind : (s : State) (p i value : ℕ) → IsSound s → p < processors s → i < 16 → delivers s p ≡ true → IsSeen (step s (Write p (number_of_register Eom) value)).0 p i
+pub seen-behind : (s : State) (p i value : ℕ) → IsSound s → p < processors s → i < 16 → delivers s p ≡ true
+    → IsSeen (step s (Write p (number_of_register Eom) value)).0 p i
 unfolding step
 seen-behind s p i value sound below under on =
     either (λ (o : Outcome). IsSeen o.0 p i) (nat_lt p (processors s)) _ _

@@ -38,7 +38,8 @@ unfolding step
 asserted s p v on = let is : nat_lt p (processors s) ≡ true = grind (arith, nat_tests) in rw is refl
 
 -- one processor more
-one-more : (s : State) (v mask p : ℕ) (so_far : effect_of (run_of s (asserts_below v mask p)) ≡ sent_below s v mask p) → (bit_at mask p ≡ 1 → p < processors s) →
+one-more : (s : State) (v mask p : ℕ) (so_far : effect_of (run_of s (asserts_below v mask p)) ≡ sent_below s v mask p)
+    → (bit_at mask p ≡ 1 → p < processors s) →
     effect_of (run_of s (asserts_below v mask (suc p))) ≡ sent_below s v mask (suc p)
 unfolding sent_below
 one-more s v mask p so_far on = by (bit_at mask p == 1) refl
@@ -50,7 +51,8 @@ one-more s v mask p so_far on = by (bit_at mask p == 1) refl
     e = sent_below s v mask p
 
     by : (b : Bool) → (bit_at mask p == 1) ≡ b →
-        effect_of (run_of s (es ++ (if b then Assert p v ∷ [] else []))) ≡ after e (if b then requested e.0 p v else nothing e.0)
+        effect_of (run_of s (es ++ (if b then Assert p v ∷ [] else [])))
+        ≡ after e (if b then requested e.0 p v else nothing e.0)
     by true is =
         let set : bit_at mask p ≡ 1 = grind (arith, nat_tests) in
         let same : processors e.0 ≡ processors s = (within-sent_below s v mask p).same in
@@ -58,9 +60,12 @@ one-more s v mask p so_far on = by (bit_at mask p == 1) refl
         run-more s es (Assert p v)
         ∙ ap (λ (x : Effect). after x ((step x.0 (Assert p v)).0, (step x.0 (Assert p v)).2)) so_far
         ∙ ap (λ (o : Outcome). after e (o.0, o.2)) (asserted e.0 p v there)
-    by false is = ap (λ (l : List Event). effect_of (run_of s l)) (append-nil es) ∙ so_far ∙ ap (λ (ns : List Notice). (e.0, ns)) (sym (append-nil e.1))
+    by false is =
+        ap (λ (l : List Event). effect_of (run_of s l)) (append-nil es) ∙ so_far
+        ∙ ap (λ (ns : List Notice). (e.0, ns)) (sym (append-nil e.1))
 
-each : (s : State) (v mask n : ℕ) → ((p : ℕ) → bit_at mask p ≡ 1 → p < processors s) → effect_of (run_of s (asserts_below v mask n)) ≡ sent_below s v mask n
+each : (s : State) (v mask n : ℕ) → ((p : ℕ) → bit_at mask p ≡ 1 → p < processors s)
+    → effect_of (run_of s (asserts_below v mask n)) ≡ sent_below s v mask n
 unfolding run_of sent_below
 each s v mask zero on = refl
 each s v mask (suc p) on = one-more s v mask p (each s v mask p on) (on p)

@@ -36,7 +36,11 @@ joined m [] ys h k = k
 joined m (x ∷ xs) ys h k = (h.0, joined m xs ys h.1 k)
 
 timely-after : (s : State) (e f : Effect) → Timely s e → Timely e.0 f → Timely s (after e f)
-timely-after s e f a b = record { same = b.same ∙ a.same; emitted = joined s.moment e.1 f.1 a.emitted (subst (λ m. AreTimely m f.1) a.same b.emitted) }
+timely-after s e f a b =
+    record {
+      same = b.same ∙ a.same;
+      emitted = joined s.moment e.1 f.1 a.emitted (subst (λ m. AreTimely m f.1) a.same b.emitted);
+    }
 
 timely-withdrawals : (m p i : ℕ) (tickets : List ℕ) → AreTimely m (map (λ t. Withdrawn p i t) tickets)
 timely-withdrawals m p i [] = tt
@@ -73,8 +77,11 @@ signals-due x t due = by x.due refl
         let le : d ≤ t = grind (arith, nat_tests) in
         subst (λ o. IsBy t (expired x (unwrap_or o 0) t).signal) (sym e) (signals-expired x d t le)
 
-timely-expiry : (m : ℕ) (t : ℕ × ℕ) (signal : Option ℕ) (skipped : ℕ) → IsBy m signal → AreTimely m (expiry_notices t signal skipped)
-timely-expiry m t signal skipped by = joined m (expired_notices t signal) (skipped_notices t skipped) (first signal by) (either (AreTimely m) (skipped == 0) _ _ (λ _. tt) (λ _. (tt, tt)))
+timely-expiry : (m : ℕ) (t : ℕ × ℕ) (signal : Option ℕ) (skipped : ℕ) → IsBy m signal
+    → AreTimely m (expiry_notices t signal skipped)
+timely-expiry m t signal skipped by =
+    joined m (expired_notices t signal) (skipped_notices t skipped) (first signal by)
+    (either (AreTimely m) (skipped == 0) _ _ (λ _. tt) (λ _. (tt, tt)))
   where
     first : (o : Option ℕ) → IsBy m o → AreTimely m (expired_notices t o)
     first None h = tt
@@ -86,15 +93,26 @@ timely = record {
   joins = timely-after;
   requests = λ s p v _. record { same = refl; emitted = (tt, tt) };
   accepts = λ s p i m. record { same = refl; emitted = (tt, tt) };
-  locations = λ s p i m rest _ _. either (λ ns. Timely s (placed_state s p i m rest, Placed p i (ticket_of m) ∷ ns)) (nat_lt 0 (length rest)) _ _
+  locations = λ s p i m rest _ _.
+      either (λ ns. Timely s (placed_state s p i m rest, Placed p i (ticket_of m) ∷ ns)) (nat_lt 0 (length rest)) _ _
       (λ _. record { same = refl; emitted = (tt, (tt, tt)) }) (λ _. record { same = refl; emitted = (tt, tt) });
-  marks = λ s p i. either (λ ns. Timely s (with_space s (after_pending (space_of s) p i), ns)) (is_pending (space_of s) p i) _ _
+  marks = λ s p i. either (λ ns. Timely s (with_space s (after_pending (space_of s) p i), ns))
+      (is_pending (space_of s) p i) _ _
       (λ _. record { same = refl; emitted = tt }) (λ _. record { same = refl; emitted = (tt, tt) });
   consumes = λ s p i t _. record { same = refl; emitted = (tt, tt) };
-  withdraws = λ s p i port. record { same = refl; emitted = timely-withdrawals s.moment p i (withdrawn_of port (queue_of s.queues p i)) };
+  withdraws = λ s p i port.
+      record { same = refl; emitted = timely-withdrawals s.moment p i (withdrawn_of port (queue_of s.queues p i)) };
   frees = λ s p i t. record { same = refl; emitted = (tt, tt) };
-  empties = λ s p i. record { same = refl; emitted = timely-withdrawals s.moment p i (map ticket_of (queue_of s.queues p i)) };
-  expires = λ s t due. record { same = refl; emitted = timely-expiry s.moment t (expiry_at s t).signal (expiry_at s t).skipped (signals-due (timer_in (bank_of s) t) s.moment due) };
+  empties = λ s p i. record {
+    same = refl;
+    emitted = timely-withdrawals s.moment p i (map ticket_of (queue_of s.queues p i));
+  };
+  expires = λ s t due. record {
+    same = refl;
+    emitted =
+        timely-expiry s.moment t (expiry_at s t).signal (expiry_at s t).skipped
+        (signals-due (timer_in (bank_of s) t) s.moment due);
+  };
 }
 
 -- the expiries of an outcome were due by its own time
@@ -104,7 +122,8 @@ record IsOnTime (s : State) (event : Event) (outcome : Outcome) : Type 0 where
 silent : (s now : State) (event : Event) (reply : Reply) → IsOnTime s event (unchanged now reply)
 silent s now event reply = record { emitted = tt }
 
-tells : (s now : State) (event : Event) (reply : Reply) (e : Effect) → Timely now e → IsOnTime s event (answered reply e)
+tells : (s now : State) (event : Event) (reply : Reply) (e : Effect) → Timely now e
+    → IsOnTime s event (answered reply e)
 tells s now event reply e h = record { emitted = subst (λ m. AreTimely m e.1) (sym h.same) h.emitted }
 
 pub on-time : (s : State) (event : Event) → AreTimely (step s event).0.moment (step s event).2
@@ -119,8 +138,11 @@ on-time s event = (throughout Timely IsOnTime timely (record {
   configures = λ s p n number value e _ _ h. tells s _ _ _ e h;
   counts = λ s p n number value e _ _ h. tells s _ _ _ e h;
   repeats = λ s port flag p i f _ _. silent s _ _ _;
-  signals = λ s port flag p i f _ _ h. let lit : State = with_flag s p i f in tells s s _ _ (after (flagged s p i f) (raised lit p i))
+  signals = λ s port flag p i f _ _ h. let lit : State = with_flag s p i f in
+      tells s s _ _ (after (flagged s p i f) (raised lit p i))
       (timely-after s (flagged s p i f) (raised lit p i) (record { same = refl; emitted = (tt, tt) }) h);
   pauses = λ s event p mark _ _. silent s _ event _;
-  resets = λ s p _ h. let e : Effect = emptied s p in tells s s _ _ (after e (cleared e.0 p, [])) (timely-after s e (cleared e.0 p, []) h (record { same = refl; emitted = tt }));
+  resets = λ s p _ h. let e : Effect = emptied s p in
+      tells s s _ _ (after e (cleared e.0 p, []))
+      (timely-after s e (cleared e.0 p, []) h (record { same = refl; emitted = tt }));
 }) s event).emitted

@@ -38,4 +38,5 @@ is_performed reply = true
 
 -- a signal that was performed found the flag clear
 abbrev pub found_clear : State → ℕ → ℕ → ℕ → Event → Reply → Bool
-found_clear s p i flag event reply = signals_flag s p i flag event && is_performed reply && not (is_flag_set (space_of s) p i flag)
+found_clear s p i flag event reply =
+    signals_flag s p i flag event && is_performed reply && not (is_flag_set (space_of s) p i flag)

@@ -1,4 +1,5 @@
--- The expiries of a one-shot timer (TLFS, "Synthetic Timers"). Timers are compared by their numbers, which are distinct on a board.
+-- The expiries of a one-shot timer (TLFS, "Synthetic Timers"). Timers are compared by their numbers, which are
+-- distinct on a board.
 use Rattle.std.specs.Prelude.{◌≡◌, ℕ, ◌==◌, ◌&&◌, ◌||◌, Bool, false, is_some, List, count_by, if◌then◌else◌}
 use Rattle.std.specs.Option.{option_map_or}
 use Rattle.board_terms.specs.Dues.{number_of}
@@ -36,7 +37,8 @@ is_count_of t p register = false
 
 -- an event writes the timer
 abbrev pub writes_timer : ℕ × ℕ → Event → Bool
-writes_timer t (Write p number value) = option_map_or (λ r. is_config_of t p r || is_count_of t p r) (register_of number) false
+writes_timer t (Write p number value) =
+    option_map_or (λ r. is_config_of t p r || is_count_of t p r) (register_of number) false
 writes_timer t event = false
 
 abbrev pub writes : ℕ × ℕ → List Event → ℕ
@@ -44,7 +46,8 @@ writes t events = count_by (writes_timer t) events
 
 -- and makes it periodic
 abbrev pub makes_periodic : ℕ × ℕ → Event → Bool
-makes_periodic t (Write p number value) = option_map_or (is_config_of t p) (register_of number) false && is_periodic value
+makes_periodic t (Write p number value) =
+    option_map_or (is_config_of t p) (register_of number) false && is_periodic value
 makes_periodic t event = false
 
 -- it is a one-shot

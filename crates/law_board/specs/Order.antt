@@ -1,4 +1,5 @@
--- The order in which the messages of a source are accepted, and placed in its slot. Sources are compared by the indices of their queues, which are distinct on a board.
+-- The order in which the messages of a source are accepted, and placed in its slot. Sources are compared by the
+-- indices of their queues, which are distinct on a board.
 use Rattle.std.specs.Prelude.{◌≡◌, ◌⊎◌, ℕ, ◌==◌, List, [], ◌∷◌, ◌++◌, map, Option, None, Some, if◌then◌else◌}
 use Rattle.std.specs.List.{filter_map}
 use Rattle.board_terms.specs.Messages.{ticket_of}
@@ -34,6 +35,8 @@ IsSubsequence [] ys = Unit {0}
 IsSubsequence (x ∷ xs) [] = ⊥
 IsSubsequence (x ∷ xs) (y ∷ ys) = ((x ≡ y) × IsSubsequence xs ys) ⊎ IsSubsequence (x ∷ xs) ys
 
--- the tickets placed in the slot of a source, and then those queued, are a subsequence of the tickets queued at first and then those accepted
+-- the tickets placed in the slot of a source, and then those queued, are a subsequence of the tickets queued at first
+-- and then those accepted
 abbrev pub KeepsOrder : ℕ → ℕ → State → State → List Notice → Type 0
-KeepsOrder p i s now emitted = IsSubsequence (placed_at p i emitted ++ queued_at now p i) (queued_at s p i ++ accepted_at p i emitted)
+KeepsOrder p i s now emitted =
+    IsSubsequence (placed_at p i emitted ++ queued_at now p i) (queued_at s p i ++ accepted_at p i emitted)

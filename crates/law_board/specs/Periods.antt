@@ -1,4 +1,5 @@
--- The periods of a periodic timer: each has one Expired notice, or is counted in a Skipped notice. Timers are compared by their numbers.
+-- The periods of a periodic timer: each has one Expired notice, or is counted in a Skipped notice. Timers are
+-- compared by their numbers.
 use Rattle.std.specs.Prelude.{◌≡◌, ◌<◌, ◌+◌, ◌*◌, ◌/◌, ℕ, Bool, ◌==◌, true, Some, List, if◌then◌else◌}
 use Rattle.std.specs.List.{sum_by}
 use Rattle.board_terms.specs.Dues.{number_of}

@@ -13,5 +13,6 @@ pub record LeavesNoTrace (s : State) (event : Event) : Type 0 where
 -- inserting an event between others inserts its reply, and changes no other reply, no notice and not the final state
 pub record AnswersAlike (s : State) (before : List Event) (event : Event) (behind : List Event) : Type 0 where
   pub state : (run_of s (before ++ event ∷ behind)).0 ≡ (run_of s (before ++ behind)).0
-  pub replies : (run_of s (before ++ event ∷ behind)).1 ≡ insert (run_of s (before ++ behind)).1 (length before) (step (run_of s before).0 event).1
+  pub replies : (run_of s (before ++ event ∷ behind)).1
+      ≡ insert (run_of s (before ++ behind)).1 (length before) (step (run_of s before).0 event).1
   pub notices : (run_of s (before ++ event ∷ behind)).2 ≡ (run_of s (before ++ behind)).2

@@ -47,19 +47,22 @@ ghost use Rattle.law_board.specs.Ticks.{ticked_all};
 /// whose board, replies and notices are those of `run_of`, and `Board::summary`, which always
 /// equals the summary computed from scratch, this describes a board after any events.
 pub fn each_ticket_is_accounted_for()
-    ensures { (processors pages first : ℕ) (events : List Event) → All PayloadFits events → Accounts (opened processors pages first) (run_of (opened processors pages first) events) }
+    ensures { (processors pages first : ℕ) (events : List Event) → All PayloadFits events
+        → Accounts (opened processors pages first) (run_of (opened processors pages first) events) }
 {}
 
 /// For any events from an opened board: the state is sound. So the theorems below that assume a
 /// sound state hold in each reachable state.
 pub fn each_state_is_sound()
-    ensures { (processors pages first : ℕ) (events : List Event) → All PayloadFits events → IsSound (run_of (opened processors pages first) events).0 }
+    ensures { (processors pages first : ℕ) (events : List Event) → All PayloadFits events
+        → IsSound (run_of (opened processors pages first) events).0 }
 {}
 
 /// After any events from an opened board, with any number of processors: a reset emits at most 276 notices,
 /// and any other event at most 192.
 pub fn each_event_emits_a_bounded_number_of_notices()
-    ensures { (processors pages first : ℕ) (events : List Event) (event : Event) → length (step (run_of (opened processors pages first) events).0 event).2 ≤ most_notices event }
+    ensures { (processors pages first : ℕ) (events : List Event) (event : Event)
+        → length (step (run_of (opened processors pages first) events).0 event).2 ≤ most_notices event }
 {}
 
 /// In any state with at most 32 timers, those of eight processors, a tick tries each timer that is due.
@@ -70,7 +73,8 @@ pub fn a_tick_tries_each_of_32_timers()
 /// For any events from an opened board: the timers of a processor are suspended iff its local APIC is. So
 /// the two suspension flags of a processor always agree.
 pub fn a_processor_has_one_suspension()
-    ensures { (processors pages first : ℕ) (events : List Event) → processors ≤ 64 → HasOneSuspension (run_of (opened processors pages first) events).0 }
+    ensures { (processors pages first : ℕ) (events : List Event) → processors ≤ 64
+        → HasOneSuspension (run_of (opened processors pages first) events).0 }
 {}
 
 /// No reply has more than 8 bytes, the most that a guest may load at once.
@@ -82,13 +86,15 @@ pub fn no_reply_has_more_than_eight_bytes()
 /// event has the outcome of that board, where the caller performs in the memory each load and store that
 /// the sparse board refuses as `Elsewhere`.
 pub fn a_sparse_board_acts_like_one_with_all_pages()
-    ensures { (s : State) (memory : Memory) (event : Event) → s.pages ≡ [] → AreAllPages memory → step (holding s memory) event ≡ completed memory event (step s event) }
+    ensures { (s : State) (memory : Memory) (event : Event) → s.pages ≡ [] → AreAllPages memory
+        → step (holding s memory) event ≡ completed memory event (step s event) }
 {}
 
 /// The same for any list of events. So what is proved of any board's replies, notices and states holds
 /// of a sparse board with the memory of its guest.
 pub fn a_sparse_board_runs_like_one_with_all_pages()
-    ensures { (s : State) (memory : Memory) (events : List Event) → s.pages ≡ [] → AreAllPages memory → run_of (holding s memory) events ≡ completed_run s memory events }
+    ensures { (s : State) (memory : Memory) (events : List Event) → s.pages ≡ [] → AreAllPages memory
+        → run_of (holding s memory) events ≡ completed_run s memory events }
 {}
 
 /// A sparse board stays sparse.
@@ -103,7 +109,8 @@ pub fn a_store_leaves_the_summary()
 
 /// A guest store leaves each page unchanged, except the one that the guest sees at its address.
 pub fn a_store_leaves_what_is_hidden()
-    ensures { (s : State) (address : ℕ) (bytes : ArrayVec ℕ) → LeavesHidden s (step s (Store address bytes)).0 (address / 4096) }
+    ensures { (s : State) (address : ℕ) (bytes : ArrayVec ℕ)
+        → LeavesHidden s (step s (Store address bytes)).0 (address / 4096) }
 {}
 
 /// An event that is refused, or raises #GP, leaves the state unchanged and emits nothing.
@@ -140,7 +147,8 @@ pub fn a_send_asserts_at_each_processor()
 /// notice of this vector at this processor is emitted.
 pub fn a_vector_is_requested_between_its_takes()
     ensures { (s : State) (events : List Event) (p v : ℕ)
-        → Takes s p v → Takes (run_of (step s (Take p)).0 events).0 p v → has_request_notice p v (run_of (step s (Take p)).0 events).2 ≡ true }
+        → Takes s p v → Takes (run_of (step s (Take p)).0 events).0 p v
+        → has_request_notice p v (run_of (step s (Take p)).0 events).2 ≡ true }
 {}
 
 /// For any events: the messages of a queue are placed in their slot in the order in which they were
@@ -153,7 +161,8 @@ pub fn a_queue_keeps_its_order()
 /// An event emits FlagSet for a flag iff it is a signal of that flag, was not refused, and found it
 /// clear; and then the flag is set.
 pub fn a_flag_notice_means_that_a_signal_set_it()
-    ensures emitted { (s : State) (event : Event) (p i flag : ℕ) → has_flag_notice p i flag (step s event).2 ≡ found_clear s p i flag event (step s event).1 }
+    ensures emitted { (s : State) (event : Event) (p i flag : ℕ)
+        → has_flag_notice p i flag (step s event).2 ≡ found_clear s p i flag event (step s event).1 }
     ensures stands { (s : State) (event : Event) (p i flag : ℕ) → IsSound s → p < processors s → i < 16 → flag < 2048
         → has_flag_notice p i flag (step s event).2 ≡ true → is_flag_set (space_of (step s event).0) p i flag ≡ true }
 {}
@@ -161,7 +170,8 @@ pub fn a_flag_notice_means_that_a_signal_set_it()
 /// A one-shot timer that no event makes periodic expires at most once for each event that writes
 /// it, and once more if it was armed before; and once less if it is armed at the end.
 pub fn a_one_shot_expires_once_a_write()
-    ensures { (s : State) (t : ℕ × ℕ) (events : List Event) → IsOneShot s t → All (λ event. makes_periodic t event ≡ false) events
+    ensures { (s : State) (t : ℕ × ℕ) (events : List Event) → IsOneShot s t
+        → All (λ event. makes_periodic t event ≡ false) events
         → expiries t (run_of s events).2 + armed (run_of s events).0 t ≤ armed s t + writes t events }
 {}
 
@@ -169,17 +179,22 @@ pub fn a_one_shot_expires_once_a_write()
 /// keeps its registers and its grid: from its deadline at first to its deadline at the end, each
 /// period has one Expired notice, or is counted once in a Skipped notice.
 pub fn periods_are_accounted_for()
-    ensures { (s : State) (t : ℕ × ℕ) (due : ℕ) (events : List Event) → IsPeriodic (timer_in (bank_of s) t) due → All (λ event. sets_timer t event ≡ false) events
-        → timer_in (bank_of (run_of s events).0) t ≡ after_periods (timer_in (bank_of s) t) due (expiries t (run_of s events).2 + skips t (run_of s events).2) }
+    ensures { (s : State) (t : ℕ × ℕ) (due : ℕ) (events : List Event) → IsPeriodic (timer_in (bank_of s) t) due
+        → All (λ event. sets_timer t event ≡ false) events
+        → timer_in (bank_of (run_of s events).0) t
+        ≡ after_periods (timer_in (bank_of s) t) due
+        (expiries t (run_of s events).2 + skips t (run_of s events).2) }
 {}
 
 /// An event that is neither a guest store nor a reset of that processor leaves an occupied slot
 /// unchanged, and likewise one that holds a ticket: its ticket, and its bytes except
 /// MessagePending.
 pub fn an_occupied_slot_is_left_to_the_guest()
-    ensures occupied { (s : State) (event : Event) (p i : ℕ) → IsSound s → PayloadFits event → IsApart p event → p < processors s → i < 16
+    ensures occupied { (s : State) (event : Event) (p i : ℕ) → IsSound s → PayloadFits event → IsApart p event
+        → p < processors s → i < 16
         → is_slot_empty s p i ≡ false → LeavesSlot s (step s event).0 p i }
-    ensures held { (s : State) (event : Event) (p i ticket : ℕ) → IsSound s → PayloadFits event → IsApart p event → p < processors s → i < 16
+    ensures held { (s : State) (event : Event) (p i ticket : ℕ) → IsSound s → PayloadFits event → IsApart p event
+        → p < processors s → i < 16
         → slot_of s p i ≡ Some ticket → LeavesSlot s (step s event).0 p i }
 {}
 
@@ -196,18 +211,22 @@ pub fn no_message_waits_unnoticed_after_eom()
 /// local APIC is, so their marks are not saved. No two such states are saved alike.
 pub fn a_saved_state_is_restored()
     ensures restored { (s : State) → HasShape s → HasPairedTimers s → restored (saved s) ≡ s }
-    ensures once { (s t : State) → HasShape s → HasPairedTimers s → HasShape t → HasPairedTimers t → saved s ≡ saved t → s ≡ t }
+    ensures once { (s t : State) → HasShape s → HasPairedTimers s → HasShape t → HasPairedTimers t → saved s ≡ saved t
+        → s ≡ t }
 {}
 
 /// Any events from any sound state, such as one that was restored: the state stays sound, the timers
 /// stay suspended with their local APICs, accepted messages are conserved, and a reset emits at most
 /// 276 notices, any other event at most 192.
 pub fn a_sound_board_stays_sound()
-    ensures sound { (s : State) (events : List Event) → All PayloadFits events → IsSound s → IsSound (run_of s events).0 }
+    ensures sound { (s : State) (events : List Event) → All PayloadFits events → IsSound s
+        → IsSound (run_of s events).0 }
     ensures buffers { (s : State) (events : List Event) → HasBuffers s → HasBuffers (run_of s events).0 }
     ensures settled { (s : State) (events : List Event) → HasPairedTimers s → HasPairedTimers (run_of s events).0 }
-    ensures conserves { (s : State) (events : List Event) → All PayloadFits events → IsSound s → Conserves s (run_of s events).0 (run_of s events).2 }
-    ensures bound { (s : State) (events : List Event) (event : Event) → HasBuffers s → length (step (run_of s events).0 event).2 ≤ most_notices event }
+    ensures conserves { (s : State) (events : List Event) → All PayloadFits events → IsSound s
+        → Conserves s (run_of s events).0 (run_of s events).2 }
+    ensures bound { (s : State) (events : List Event) (event : Event) → HasBuffers s
+        → length (step (run_of s events).0 event).2 ≤ most_notices event }
 {}
 
 /// A timer that is set after all timers that are not idle is the last one that is saved. So what is

@@ -77,14 +77,22 @@ module _ (s : State) (h : IsBoardState s) where
 
   body-passed : Passes (point timed 0 (place 2 0 0 0)) (body_lines s) (point s (processors s) (place 10 0 0 0))
   body-passed =
-      passes-append (point timed 0 (place 2 0 0 0)) (point with_lapics n (place 3 0 0 0)) end (each_below n (lapic_lines s)) _ (lapics-passed s h timed)
-      (passes-append (point with_lapics n (place 3 0 0 0)) (point with_registers n (place 4 0 0 0)) end (each_below n (register_lines s)) _ (regs-passed s h with_lapics refl)
-      (passes-append (point with_registers n (place 4 0 0 0)) (point with_guests n (place 5 0 0 0)) end (each_below (length s.pages) (guest_lines s)) _ (guests-passed s h with_registers refl)
-      (passes-append (point with_guests n (place 5 0 0 0)) (point with_owns n (place 6 0 0 0)) end (each_below n (own_lines s)) _
+      passes-append (point timed 0 (place 2 0 0 0)) (point with_lapics n (place 3 0 0 0)) end
+      (each_below n (lapic_lines s)) _ (lapics-passed s h timed)
+      (passes-append (point with_lapics n (place 3 0 0 0)) (point with_registers n (place 4 0 0 0)) end
+      (each_below n (register_lines s)) _ (regs-passed s h with_lapics refl)
+      (passes-append (point with_registers n (place 4 0 0 0)) (point with_guests n (place 5 0 0 0)) end
+      (each_below (length s.pages) (guest_lines s)) _ (guests-passed s h with_registers refl)
+      (passes-append (point with_guests n (place 5 0 0 0)) (point with_owns n (place 6 0 0 0)) end
+      (each_below n (own_lines s)) _
       (owns-passed s h with_guests refl (λ p i low. no-ticket (16 * n) (16 * p + i)))
-      (passes-append (point with_owns n (place 6 0 0 0)) (point with_ports n (place 7 0 0 0)) end (each_below (length s.ports) (port_lines s)) _ (ports-passed s h with_owns refl (port_count n (nat_eq (length s.pages) 0)) (sym h.shape.ports))
-      (passes-append (point with_ports n (place 7 0 0 0)) (point with_timers n (place 8 0 0 0)) end (each_below n (timers_lines s)) _ (timers-passed s h with_ports refl refl)
-      (passes-append (point with_timers n (place 8 0 0 0)) (point with_queues n (place 9 0 0 0)) end (each_below n (queues_lines s)) (each_below n (slots_lines s))
+      (passes-append (point with_owns n (place 6 0 0 0)) (point with_ports n (place 7 0 0 0)) end
+      (each_below (length s.ports) (port_lines s)) _
+      (ports-passed s h with_owns refl (port_count n (nat_eq (length s.pages) 0)) (sym h.shape.ports))
+      (passes-append (point with_ports n (place 7 0 0 0)) (point with_timers n (place 8 0 0 0)) end
+      (each_below n (timers_lines s)) _ (timers-passed s h with_ports refl refl)
+      (passes-append (point with_timers n (place 8 0 0 0)) (point with_queues n (place 9 0 0 0)) end
+      (each_below n (queues_lines s)) (each_below n (slots_lines s))
       (queues-passed s h with_timers refl refl refl (λ x. none-in x (16 * n)) refl)
       (slots-passed s h with_queues refl refl refl refl)))))))
     where
@@ -115,8 +123,10 @@ module _ (s : State) (h : IsBoardState s) where
     count = processors s;
     pages = length s.pages;
     ticket = s.next_ticket;
-    item = (item-reading (spaced (item_fields (Opening n (Some (length s.pages)) s.next_ticket))) (Opening n (Some (length s.pages)) s.next_ticket)).1
-        (item-means (Opening n (Some (length s.pages)) s.next_ticket) (omega (arith, h.sizes.processor_bound), omega (arith, h.sizes.page_bound), h.ranges.next_ticket));
+    item = (item-reading (spaced (item_fields (Opening n (Some (length s.pages)) s.next_ticket)))
+        (Opening n (Some (length s.pages)) s.next_ticket)).1
+        (item-means (Opening n (Some (length s.pages)) s.next_ticket)
+        (omega (arith, h.sizes.processor_bound), omega (arith, h.sizes.page_bound), h.ranges.next_ticket));
     sizes = h.sizes;
     stage = refl;
   }
@@ -130,8 +140,10 @@ module _ (s : State) (h : IsBoardState s) where
       Body board 0 0,
       board-written n (Some (length s.pages)) s.next_ticket,
       opens,
-      walks-append (Body board 0 0) (Body timed first.now 0) done (moment_lines s.moment) (body_lines s ++ end_fields ∷ []) first.walk
-          (walks-append (Body timed first.now 0) (Body s rest.now n) done (body_lines s) (end_fields ∷ []) rest.walk (end-walked rest.now rest.before)),
+      walks-append (Body board 0 0) (Body timed first.now 0) done (moment_lines s.moment)
+          (body_lines s ++ end_fields ∷ []) first.walk
+          (walks-append (Body timed first.now 0) (Body s rest.now n) done (body_lines s) (end_fields ∷ []) rest.walk
+          (end-walked rest.now rest.before)),
     ),
   )
     where

@@ -30,17 +30,21 @@ blend-all page l =
     (λ i. take_all 4096 page (omega (arith, l)) i ++ drop_all 4096 zero_page (omega (arith, zeros)) i) ∙ append-nil page
 
 -- one more block
-blend-block : (page : List ℕ) (c : ℕ) → length page ≡ 4096 → c < 16 → blend page (suc c) ≡ (take (256 * c) page ++ block_of page c) ++ drop (256 * c + 256) zero_page
+blend-block : (page : List ℕ) (c : ℕ) → length page ≡ 4096 → c < 16
+    → blend page (suc c) ≡ (take (256 * c) page ++ block_of page c) ++ drop (256 * c + 256) zero_page
 blend-block page c l h =
     let next : 256 * suc c ≡ 256 * c + 256 = omega arith in
-    (λ i. take (next i) page ++ drop (next i) zero_page) ∙ ap (λ (y : List ℕ). y ++ drop (256 * c + 256) zero_page) (sym grown)
+    (λ i. take (next i) page ++ drop (next i) zero_page)
+    ∙ ap (λ (y : List ℕ). y ++ drop (256 * c + 256) zero_page) (sym grown)
   where
     grown : take (256 * c) page ++ block_of page c ≡ take (256 * c + 256) page
     grown =
-        (λ i. sym (take-take (256 * c) (256 * c + 256) page (omega arith)) i ++ between_is page (256 * c) (256 * c + 256) i)
+        (λ i. sym (take-take (256 * c) (256 * c + 256) page (omega arith)) i
+        ++ between_is page (256 * c) (256 * c + 256) i)
         ∙ take-append-drop (256 * c) (take (256 * c + 256) page)
 
-pub blend-more : (page : List ℕ) (c : ℕ) → length page ≡ 4096 → c < 16 → blend page (suc c) ≡ overwritten (blend page c) (256 * c) (block_of page c)
+pub blend-more : (page : List ℕ) (c : ℕ) → length page ≡ 4096 → c < 16
+    → blend page (suc c) ≡ overwritten (blend page c) (256 * c) (block_of page c)
 blend-more page c l h =
     blend-block page c l h ∙ (λ i. (sym front i ++ block_of page c) ++ sym rest i)
   where
@@ -58,14 +62,16 @@ blend-more page c l h =
         ∙ drop-drop 256 (256 * c) zero_page
 
 -- a block of zeros
-blend-still : (page : List ℕ) (c : ℕ) → length page ≡ 4096 → c < 16 → block_of page c ≡ replicate 256 0 → blend page (suc c) ≡ blend page c
+blend-still : (page : List ℕ) (c : ℕ) → length page ≡ 4096 → c < 16 → block_of page c ≡ replicate 256 0
+    → blend page (suc c) ≡ blend page c
 blend-still page c l h is =
     blend-block page c l h
     ∙ ap (λ (y : List ℕ). (take (256 * c) page ++ y) ++ drop (256 * c + 256) zero_page) (is ∙ sym (zero-block c h))
     ∙ append_assoc (take (256 * c) page) (block_of zero_page c) (drop (256 * c + 256) zero_page)
     ∙ ap (λ (y : List ℕ). take (256 * c) page ++ y) (sym (drop_split zero_page (256 * c) (256 * c + 256) (omega arith)))
 
-pub block-fits : (page : List ℕ) (c : ℕ) → length page ≡ 4096 → AreBytes page → c < 16 → IsPageBlock (256 * c) (block_of page c)
+pub block-fits : (page : List ℕ) (c : ℕ) → length page ≡ 4096 → AreBytes page → c < 16
+    → IsPageBlock (256 * c) (block_of page c)
 block-fits page c l bytes h = (omega (arith, h), each, length-block page c l h)
   where
     each : AreBytes (block_of page c)
@@ -85,13 +91,19 @@ pub record IsPageWalk (page : List ℕ) (board : List ℕ → State) (lapics : �
   pub step : (c : ℕ) → c < 16 → bytes_eq (block_of page c) (replicate 256 0) ≡ false →
       Fits (point (board (blend page c)) lapics (at c)) (x c) (point (board (blend page (suc c))) lapics (at (suc c)))
 
-pub page-passed : (page : List ℕ) (board : List ℕ → State) (lapics : ℕ) (at : ℕ → ℕ) (x : ℕ → Piece) → IsPageWalk page board lapics at x →
-    Passes (point (board zero_page) lapics (at 0)) (each_below 16 (λ c. block_printed (x c) (block_of page c))) (point (board page) lapics (at 16))
+pub page-passed : (page : List ℕ) (board : List ℕ → State) (lapics : ℕ) (at : ℕ → ℕ) (x : ℕ → Piece)
+    → IsPageWalk page board lapics at x →
+    Passes (point (board zero_page) lapics (at 0)) (each_below 16 (λ c. block_printed (x c) (block_of page c)))
+    (point (board page) lapics (at 16))
 page-passed page board lapics at x h =
-    passes-to (to 0) (to 16) (point (board page) lapics (at 16)) (each_below 16 (λ c. block_printed (x c) (block_of page c)))
+    passes-to (to 0) (to 16) (point (board page) lapics (at 16))
+    (each_below 16 (λ c. block_printed (x c) (block_of page c)))
     (ap board (sym (blend-all page h.whole))) refl (omega arith)
-    (passes-each 16 (λ c. block_printed (x c) (block_of page c)) to (λ c below. passes-unless (bytes_eq (block_of page c) (replicate 256 0)) (to c) (x c) (to (suc c))
-    (λ e. passes-none (to c) (to (suc c)) (ap board (blend-still page c h.whole below ((bytes_eq-Decides (block_of page c) (replicate 256 0)).0 e))) refl (h.rising c))
+    (passes-each 16 (λ c. block_printed (x c) (block_of page c)) to
+    (λ c below. passes-unless (bytes_eq (block_of page c) (replicate 256 0)) (to c) (x c) (to (suc c))
+    (λ e. passes-none (to c) (to (suc c))
+    (ap board (blend-still page c h.whole below ((bytes_eq-Decides (block_of page c) (replicate 256 0)).0 e)))
+    refl (h.rising c))
     (h.step c below)))
   where
     to : ℕ → Point

@@ -30,7 +30,8 @@ pub record IsShaped (n m ticket : ℕ) (s : State) : Type 0 where
 abbrev pub IsBlank : ℕ → ℕ → State → ℕ → ℕ → Type 0
 IsBlank n m s last lapics = IsEmptyAfter n m last (printed s lapics)
 
--- A piece leads to a state in which its line is at its spot, after the lines that were there, and the other spots are unchanged.
+-- A piece leads to a state in which its line is at its spot, after the lines that were there, and the other spots are
+-- unchanged.
 pub record Extends (n m ticket : ℕ) (s : State) (lapics : ℕ) (x : Piece) (new : State) (after : ℕ) : Type 0 where
   pub shaped : IsShaped n m ticket new
   pub section : Section
@@ -46,8 +47,10 @@ pub record Extends (n m ticket : ℕ) (s : State) (lapics : ℕ) (x : Piece) (ne
 pub first-added : (old new : Lines) (x : List (List ℕ)) → old ≡ [] → new ≡ x ∷ [] → new ≡ old ++ x ∷ []
 first-added old new x empty is = is ∙ ap (λ (y : Lines). y ++ x ∷ []) (sym empty)
 
-pub extends-adds : (n m ticket : ℕ) (s : State) (last lapics : ℕ) (x : Piece) (new : State) (after : ℕ) → IsBlank n m s last lapics → last ≤ place_of x →
-    Extends n m ticket s lapics x new after → AddsLine n m (printed s lapics) (printed new after) (place_of x) (piece_fields x)
+pub extends-adds : (n m ticket : ℕ) (s : State) (last lapics : ℕ) (x : Piece) (new : State) (after : ℕ)
+    → IsBlank n m s last lapics → last ≤ place_of x →
+    Extends n m ticket s lapics x new after
+    → AddsLine n m (printed s lapics) (printed new after) (place_of x) (piece_fields x)
 extends-adds n m ticket s last lapics x new after blank later h = record {
   section = h.section;
   a = h.a;
@@ -60,7 +63,9 @@ extends-adds n m ticket s last lapics x new after blank later h = record {
   added = h.added;
 }
 
-pub still-blank : (n m ticket : ℕ) (s : State) (last lapics : ℕ) (x : Piece) (new : State) (after : ℕ) → IsBlank n m s last lapics → last ≤ place_of x →
+pub still-blank : (n m ticket : ℕ) (s : State) (last lapics : ℕ) (x : Piece) (new : State) (after : ℕ)
+    → IsBlank n m s last lapics → last ≤ place_of x →
     Extends n m ticket s lapics x new after → IsBlank n m new (place_of x) after
 still-blank n m ticket s last lapics x new after blank later h =
-    λ σ i j k spot behind. h.frame σ i j k spot (λ e. omega (arith, e, behind)) ∙ blank σ i j k spot (omega (arith, behind, later))
+    λ σ i j k spot behind. h.frame σ i j k spot (λ e. omega (arith, e, behind))
+    ∙ blank σ i j k spot (omega (arith, behind, later))

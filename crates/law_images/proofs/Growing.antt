@@ -11,12 +11,16 @@ each-one f = refl
 pub each-same : (n : ℕ) (f g : ℕ → Lines) → ((j : ℕ) → j < n → g j ≡ f j) → each_below n g ≡ each_below n f
 unfolding each_below
 each-same zero f g h = refl
-each-same (suc n) f g h = let first = each-same n f g (λ j below. h j (omega arith)) in let last = h n (omega arith) in (λ i. first i ++ last i)
+each-same (suc n) f g h =
+    let first =
+    each-same n f g (λ j below. h j (omega arith)) in let last = h n (omega arith) in (λ i. first i ++ last i)
 
 pub each-empty : (n : ℕ) (f : ℕ → Lines) → ((j : ℕ) → j < n → f j ≡ []) → each_below n f ≡ []
 unfolding each_below
 each-empty zero f h = refl
-each-empty (suc n) f h = let first = each-empty n f (λ j below. h j (omega arith)) in let last = h n (omega arith) in (λ i. first i ++ last i)
+each-empty (suc n) f h =
+    let first =
+    each-empty n f (λ j below. h j (omega arith)) in let last = h n (omega arith) in (λ i. first i ++ last i)
 
 -- The lines of number k get one more line, those of the other numbers stay, and there are none after number k.
 pub record Grows (n k : ℕ) (f g : ℕ → Lines) (x : List (List ℕ)) : Type 0 where
@@ -25,7 +29,8 @@ pub record Grows (n k : ℕ) (f g : ℕ → Lines) (x : List (List ℕ)) : Type 
   pub empty : (j : ℕ) → j < n → k < j → f j ≡ []
   pub here : g k ≡ f k ++ x ∷ []
 
-pub each-grows : (n k : ℕ) (f g : ℕ → Lines) (x : List (List ℕ)) → Grows n k f g x → each_below n g ≡ each_below n f ++ x ∷ []
+pub each-grows : (n k : ℕ) (f g : ℕ → Lines) (x : List (List ℕ)) → Grows n k f g x
+    → each_below n g ≡ each_below n f ++ x ∷ []
 unfolding each_below
 each-grows zero k f g x h = absurd (omega (arith, h.within))
 each-grows (suc n) k f g x h = by (cases_eq k n) (λ within. each-grows n k f g x (record {
@@ -35,7 +40,8 @@ each-grows (suc n) k f g x h = by (cases_eq k n) (λ within. each-grows n k f g 
   here = h.here;
 }))
   where
-    by : (k ≡ n) ⊎ (k ≢ n) → (k < n → each_below n g ≡ each_below n f ++ x ∷ []) → each_below n g ++ g n ≡ (each_below n f ++ f n) ++ x ∷ []
+    by : (k ≡ n) ⊎ (k ≢ n) → (k < n → each_below n g ≡ each_below n f ++ x ∷ [])
+        → each_below n g ++ g n ≡ (each_below n f ++ f n) ++ x ∷ []
     by (inl last) before =
         let same = each-same n f g (λ j below. h.others j (omega arith) (λ e. omega (arith, e, last))) in
         let added : g n ≡ f n ++ x ∷ [] = (λ i. g (sym last i)) ∙ h.here ∙ (λ i. f (last i) ++ x ∷ []) in
@@ -46,4 +52,5 @@ each-grows (suc n) k f g x h = by (cases_eq k n) (λ within. each-grows n k f g 
         let none = h.empty n (omega arith) (omega arith) in
         let still = h.others n (omega arith) (λ e. other (sym e)) ∙ none in
         (λ i. more i ++ still i) ∙ append-nil (each_below n f ++ x ∷ [])
-        ∙ ap (λ (y : Lines). y ++ x ∷ []) (sym (append-nil (each_below n f)) ∙ ap (λ (y : Lines). each_below n f ++ y) (sym none))
+        ∙ ap (λ (y : Lines). y ++ x ∷ [])
+        (sym (append-nil (each_below n f)) ∙ ap (λ (y : Lines). each_below n f ++ y) (sym none))

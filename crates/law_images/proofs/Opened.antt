@@ -46,35 +46,53 @@ registers-blank : (p b : ℕ) → b < 19 → register_printed p reset_regs b ≡
 registers-blank p zero h = refl
 registers-blank p (suc zero) h = refl
 registers-blank p (suc (suc zero)) h = refl
-registers-blank p (suc (suc (suc i))) h = ap (λ (value : ℕ). changed_line p (source_name i) value masked) (get_or-replicate 16 i masked 0 (omega (arith, h)))
+registers-blank p (suc (suc (suc i))) h =
+    ap (λ (value : ℕ). changed_line p (source_name i) value masked) (get_or-replicate 16 i masked 0 (omega (arith, h)))
 
 block-blank : (x : Piece) (bytes : List ℕ) → bytes ≡ replicate 256 0 → block_printed x bytes ≡ []
-block-blank x bytes is = let same : bytes_eq bytes (replicate 256 0) ≡ true = (bytes_eq-Decides bytes (replicate 256 0)).1 is in ap (λ (t : Bool). cond t [] (piece_fields x ∷ [])) same
+block-blank x bytes is =
+    let same : bytes_eq bytes (replicate 256 0) ≡ true =
+    (bytes_eq-Decides bytes (replicate 256 0)).1 is in ap (λ (t : Bool). cond t [] (piece_fields x ∷ [])) same
 
-queue-blank : (p i : ℕ) (q : List Message) → q ≡ [] → each_below (length q) (λ k. option_map_or (λ m. message_fields p i m ∷ []) (slice_get q k) []) ≡ []
+queue-blank : (p i : ℕ) (q : List Message) → q ≡ []
+    → each_below (length q) (λ k. option_map_or (λ m. message_fields p i m ∷ []) (slice_get q k) []) ≡ []
 unfolding each_below
-queue-blank p i q is = ap (λ (y : List Message). each_below (length y) (λ k. option_map_or (λ m. message_fields p i m ∷ []) (slice_get y k) [])) is
+queue-blank p i q is =
+    ap (λ (y : List Message). each_below (length y)
+    (λ k. option_map_or (λ m. message_fields p i m ∷ []) (slice_get y k) [])) is
 
 own-in : (n p b : ℕ) → p < n → overlay_of p (kind_of b) < 2 * n
 own-in n p zero h = omega arith
 own-in n p (suc b) h = omega arith
 
-pub opened-blank : (n m ticket : ℕ) → IsWithinLimits n m → (σ : Section) (a b c : ℕ) → IsSpot n m σ a b c → printed (opened n m ticket) 0 σ a b c ≡ []
+pub opened-blank : (n m ticket : ℕ) → IsWithinLimits n m → (σ : Section) (a b c : ℕ) → IsSpot n m σ a b c
+    → printed (opened n m ticket) 0 σ a b c ≡ []
 opened-blank n m ticket sizes Time a b c h = refl
 opened-blank n m ticket sizes Lapics p b c h =
-    let off : nat_lt p 0 ≡ false = grind (arith, nat_tests) in ap (λ (t : Bool). cond t (lapic_lines (opened n m ticket) p) []) off
-opened-blank n m ticket sizes Registers p b c h = ap (λ (r : Regs). register_printed p r b) (get_or-replicate n p reset_regs reset_regs h.0) ∙ registers-blank p b h.1
+    let off : nat_lt p 0 ≡ false =
+    grind (arith, nat_tests) in ap (λ (t : Bool). cond t (lapic_lines (opened n m ticket) p) []) off
+opened-blank n m ticket sizes Registers p b c h =
+    ap (λ (r : Regs). register_printed p r b) (get_or-replicate n p reset_regs reset_regs h.0) ∙ registers-blank p b h.1
 opened-blank n m ticket sizes Guests k b c h =
     ap (λ (page : List ℕ). guest_printed k page c) (get_or-replicate m k zero_page [] h.0)
-    ∙ block-blank (pieces.Guest k (256 * c) (record { items = block_of zero_page c })) (block_of zero_page c) (zero-block c h.2)
+    ∙ block-blank (pieces.Guest k (256 * c) (record { items = block_of zero_page c })) (block_of zero_page c)
+    (zero-block c h.2)
 opened-blank n m ticket sizes Owns p b c h =
-    ap (λ (page : List ℕ). own_printed p (kind_of b) page c) (get_or-replicate (2 * n) (overlay_of p (kind_of b)) zero_page [] (own-in n p b h.0))
-    ∙ block-blank (pieces.Own p (kind_of b) (256 * c) (record { items = block_of zero_page c })) (block_of zero_page c) (zero-block c h.2)
-opened-blank n m ticket sizes Ports k b c h = ap (λ (o : Option Port). option_map_or (λ port. port_line k port ∷ []) o []) (get_or-replicate (port_count n (nat_eq m 0)) k None None h.0)
+    ap (λ (page : List ℕ). own_printed p (kind_of b) page c)
+    (get_or-replicate (2 * n) (overlay_of p (kind_of b)) zero_page [] (own-in n p b h.0))
+    ∙ block-blank (pieces.Own p (kind_of b) (256 * c) (record { items = block_of zero_page c }))
+    (block_of zero_page c) (zero-block c h.2)
+opened-blank n m ticket sizes Ports k b c h =
+    ap (λ (o : Option Port). option_map_or (λ port. port_line k port ∷ []) o [])
+    (get_or-replicate (port_count n (nat_eq m 0)) k None None h.0)
 opened-blank n m ticket sizes Timers p i c h =
     let below = h.0 in let inside = h.1 in
-    ap (λ (x : Timer). timer_line (p, i) x.config x.count x.due) (get_or-replicate (4 * n) (4 * p + i) idle_timer idle_timer (omega arith))
+    ap (λ (x : Timer). timer_line (p, i) x.config x.count x.due)
+    (get_or-replicate (4 * n) (4 * p + i) idle_timer idle_timer (omega arith))
 opened-blank n m ticket sizes Queues p i c h =
-    let below = h.0 in let inside = h.1 in queue-blank p i (get_or (replicate (16 * n) []) (16 * p + i) []) (get_or-replicate (16 * n) (16 * p + i) [] [] (omega arith))
+    let below = h.0 in let inside = h.1 in
+    queue-blank p i (get_or (replicate (16 * n) []) (16 * p + i) [])
+    (get_or-replicate (16 * n) (16 * p + i) [] [] (omega arith))
 opened-blank n m ticket sizes Slots p i c h =
-    let below = h.0 in let inside = h.1 in ap (slot_line p i) (get_or-replicate (16 * n) (16 * p + i) None None (omega arith))
+    let below = h.0 in let inside = h.1 in
+    ap (slot_line p i) (get_or-replicate (16 * n) (16 * p + i) None None (omega arith))

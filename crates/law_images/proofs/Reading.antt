@@ -31,7 +31,8 @@ ended last = cond (last == place_of pieces.End) (end_fields ∷ []) []
 abbrev so_far : ℕ → ℕ → ℕ → State → ℕ → ℕ → Lines
 so_far n m ticket s last lapics = titles n m ticket ++ (all_lines n m (printed s lapics) ++ ended last)
 
--- These lines were read, and led to this state: they are what is printed of it so far, and the rest of it is as on a newly opened board.
+-- These lines were read, and led to this state: they are what is printed of it so far, and the rest of it is as on a
+-- newly opened board.
 record IsRead (s : State) (last lapics : ℕ) (lines : Lines) : Type 0 where
   n : ℕ
   m : ℕ
@@ -63,10 +64,13 @@ late last (pieces.Slot p i ticket) inner h = omega (arith, h)
 late last pieces.End inner h = absurd inner
 
 not-ended : (last : ℕ) → last < place_of pieces.End → ended last ≡ []
-not-ended last h = let off : (last == place_of pieces.End) ≡ false = grind (arith, nat_tests) in ap (λ (t : Bool). cond t (end_fields ∷ []) []) off
+not-ended last h =
+    let off : (last == place_of pieces.End) ≡ false =
+    grind (arith, nat_tests) in ap (λ (t : Bool). cond t (end_fields ∷ []) []) off
 
 -- a piece before the end
-inner-read : (s : State) (last lapics : ℕ) (x : Piece) (new : Stage) (lines : Lines) → IsInner x → IsPiece x → Continues s last lapics x new → IsRead s last lapics lines →
+inner-read : (s : State) (last lapics : ℕ) (x : Piece) (new : Stage) (lines : Lines) → IsInner x → IsPiece x
+    → Continues s last lapics x new → IsRead s last lapics lines →
     HasRead new (lines ++ piece_fields x ∷ [])
 inner-read s last lapics x new lines inner fits h k =
     subst (λ (st : Stage). HasRead st (lines ++ piece_fields x ∷ [])) (sym h.stage) written
@@ -75,21 +79,29 @@ inner-read s last lapics x new lines inner fits h k =
     after = lapics_after lapics x
 
     step : Extends k.n k.m k.ticket s lapics x h.next after
-    step = extends k.n k.m k.ticket s last lapics h.next k.sizes k.shaped k.blank x inner fits h.later (subst (λ (n : ℕ). IsInTurn n lapics x) k.shaped.apics h.turn) h.restores
+    step = extends k.n k.m k.ticket s last lapics h.next k.sizes k.shaped k.blank x inner fits h.later
+        (subst (λ (n : ℕ). IsInTurn n lapics x) k.shaped.apics h.turn) h.restores
 
     low : place_of x < place_of pieces.End
-    low = omega (arith, step.is, before-end k.n k.m k.sizes.processor_bound k.sizes.page_bound step.section step.a step.b step.c step.spot)
+    low = omega (
+      arith,
+      step.is,
+      before-end k.n k.m k.sizes.processor_bound k.sizes.page_bound step.section step.a step.b step.c step.spot,
+    )
 
     later : last ≤ place_of x
     later = late last x inner h.later
 
     grown : all_lines k.n k.m (printed h.next after) ≡ all_lines k.n k.m (printed s lapics) ++ piece_fields x ∷ []
-    grown = all-grow k.n k.m k.sizes.processor_bound k.sizes.page_bound (printed s lapics) (printed h.next after) (place_of x) (piece_fields x)
+    grown = all-grow k.n k.m k.sizes.processor_bound k.sizes.page_bound (printed s lapics) (printed h.next after)
+        (place_of x) (piece_fields x)
         (extends-adds k.n k.m k.ticket s last lapics x h.next after k.blank later step)
 
-    longer : (front old now e e' read : Lines) (line : List (List ℕ)) → read ≡ front ++ (old ++ e) → now ≡ old ++ line ∷ [] → e ≡ [] → e' ≡ [] →
+    longer : (front old now e e' read : Lines) (line : List (List ℕ)) → read ≡ front ++ (old ++ e)
+        → now ≡ old ++ line ∷ [] → e ≡ [] → e' ≡ [] →
         read ++ line ∷ [] ≡ front ++ (now ++ e')
-    longer front old now e e' read line is more none none' = rw (is, more, none, none') (simp (append_assoc, append-nil))
+    longer front old now e e' read line is more none none' =
+        rw (is, more, none, none') (simp (append_assoc, append-nil))
 
     written : IsRead h.next (place_of x) after (lines ++ piece_fields x ∷ [])
     written = record {
@@ -100,17 +112,20 @@ inner-read s last lapics x new lines inner fits h k =
       shaped = step.shaped;
       blank = still-blank k.n k.m k.ticket s last lapics x h.next after k.blank later step;
       full = λ e. absurd (omega (arith, e, low));
-      same = longer (titles k.n k.m k.ticket) (all_lines k.n k.m (printed s lapics)) (all_lines k.n k.m (printed h.next after)) (ended last) (ended (place_of x)) lines (piece_fields x)
+      same = longer (titles k.n k.m k.ticket) (all_lines k.n k.m (printed s lapics))
+          (all_lines k.n k.m (printed h.next after)) (ended last) (ended (place_of x)) lines (piece_fields x)
           k.same grown (not-ended last (omega (arith, later, low))) (not-ended (place_of x) low);
     }
 
 -- the end
-end-read : (s : State) (last lapics : ℕ) (new : Stage) (lines : Lines) → Continues s last lapics pieces.End new → IsRead s last lapics lines → HasRead new (lines ++ end_fields ∷ [])
+end-read : (s : State) (last lapics : ℕ) (new : Stage) (lines : Lines) → Continues s last lapics pieces.End new
+    → IsRead s last lapics lines → HasRead new (lines ++ end_fields ∷ [])
 end-read s last lapics new lines h k =
     subst (λ (st : Stage). HasRead st (lines ++ end_fields ∷ [])) (sym h.stage)
     (subst (λ (t : State). IsRead t (place_of pieces.End) lapics (lines ++ end_fields ∷ [])) (sym h.restores) written)
   where
-    longer : (front old e read : Lines) → read ≡ front ++ (old ++ e) → e ≡ [] → read ++ end_fields ∷ [] ≡ front ++ (old ++ end_fields ∷ [])
+    longer : (front old e read : Lines) → read ≡ front ++ (old ++ e) → e ≡ []
+        → read ++ end_fields ∷ [] ≡ front ++ (old ++ end_fields ∷ [])
     longer front old e read is none = rw (is, none) (simp (append_assoc, append-nil))
 
     written : IsRead s (place_of pieces.End) lapics (lines ++ end_fields ∷ [])
@@ -122,10 +137,12 @@ end-read s last lapics new lines h k =
       shaped = k.shaped;
       blank = λ σ i j l spot behind. k.blank σ i j l spot (omega (arith, behind, h.later));
       full = λ _. h.turn ∙ k.shaped.apics;
-      same = longer (titles k.n k.m k.ticket) (all_lines k.n k.m (printed s lapics)) (ended last) lines k.same (not-ended last h.later);
+      same = longer (titles k.n k.m k.ticket) (all_lines k.n k.m (printed s lapics)) (ended last) lines k.same
+          (not-ended last h.later);
     }
 
-piece-read : (s : State) (last lapics : ℕ) (x : Piece) (new : Stage) (lines : Lines) → IsPiece x → Continues s last lapics x new → IsRead s last lapics lines →
+piece-read : (s : State) (last lapics : ℕ) (x : Piece) (new : Stage) (lines : Lines) → IsPiece x
+    → Continues s last lapics x new → IsRead s last lapics lines →
     HasRead new (lines ++ piece_fields x ∷ [])
 piece-read s last lapics pieces.End new lines fits h k = end-read s last lapics new lines h k
 piece-read s last lapics x new lines fits h k = inner-read s last lapics x new lines tt fits h k
@@ -134,21 +151,26 @@ piece-read s last lapics x new lines fits h k = inner-read s last lapics x new l
 opened-lines : (n m ticket : ℕ) → IsWithinLimits n m → titles n m ticket ≡ so_far n m ticket (opened n m ticket) 0 0
 opened-lines n m ticket sizes =
     let lines : Lines = all_lines n m (printed (opened n m ticket) 0) in
-    ap (λ (x : Lines). titles n m ticket ++ x) (sym (append-nil lines ∙ all-empty n m (printed (opened n m ticket) 0) (opened-blank n m ticket sizes)))
+    ap (λ (x : Lines). titles n m ticket ++ x)
+    (sym (append-nil lines ∙ all-empty n m (printed (opened n m ticket) 0) (opened-blank n m ticket sizes)))
 
 -- the board line
-opening-read : (line : List ℕ) (new : Stage) (lines : Lines) (h : Opens line new) → lines ≡ (codes "image" ∷ codes "1" ∷ []) ∷ [] →
+opening-read : (line : List ℕ) (new : Stage) (lines : Lines) (h : Opens line new)
+    → lines ≡ (codes "image" ∷ codes "1" ∷ []) ∷ [] →
     HasRead new (lines ++ item_fields (Opening h.count (Some h.pages) h.ticket) ∷ [])
-opening-read line new lines h is = subst (λ (st : Stage). HasRead st (lines ++ item_fields (Opening h.count (Some h.pages) h.ticket) ∷ [])) (sym h.stage) (record {
-  n = h.count;
-  m = h.pages;
-  ticket = h.ticket;
-  sizes = h.sizes;
-  shaped = opened-shaped h.count h.pages h.ticket;
-  blank = λ σ i j k spot behind. opened-blank h.count h.pages h.ticket h.sizes σ i j k spot;
-  full = λ e. absurd (omega (arith, e));
-  same = ap (λ (x : Lines). x ++ item_fields (Opening h.count (Some h.pages) h.ticket) ∷ []) is ∙ opened-lines h.count h.pages h.ticket h.sizes;
-})
+opening-read line new lines h is =
+    subst (λ (st : Stage). HasRead st (lines ++ item_fields (Opening h.count (Some h.pages) h.ticket) ∷ []))
+    (sym h.stage) (record {
+      n = h.count;
+      m = h.pages;
+      ticket = h.ticket;
+      sizes = h.sizes;
+      shaped = opened-shaped h.count h.pages h.ticket;
+      blank = λ σ i j k spot behind. opened-blank h.count h.pages h.ticket h.sizes σ i j k spot;
+      full = λ e. absurd (omega (arith, e));
+      same = ap (λ (x : Lines). x ++ item_fields (Opening h.count (Some h.pages) h.ticket) ∷ []) is
+          ∙ opened-lines h.count h.pages h.ticket h.sizes;
+    })
 
 -- a line has the fields of what it denotes
 whole : (line : List ℕ) (fields : List (List ℕ)) → fields_of line ≡ fields → line ≡ spaced fields
@@ -159,38 +181,48 @@ record ReadsLine (line : List ℕ) (new : Stage) (lines : Lines) : Type 0 where
   text : line ≡ spaced fields
   read : HasRead new (lines ++ fields ∷ [])
 
-line-read : (old new : Stage) (line : List ℕ) (lines : Lines) → Follows old line new → HasRead old lines → ReadsLine line new lines
+line-read : (old new : Stage) (line : List ℕ) (lines : Lines) → Follows old line new → HasRead old lines
+    → ReadsLine line new lines
 line-read Untitled new line lines h is = record {
   fields = codes "image" ∷ codes "1" ∷ [];
   text = h.0;
-  read = subst (λ (st : Stage). HasRead st (lines ++ (codes "image" ∷ codes "1" ∷ []) ∷ [])) (sym h.1) (ap (λ (x : Lines). x ++ (codes "image" ∷ codes "1" ∷ []) ∷ []) is);
+  read = subst (λ (st : Stage). HasRead st (lines ++ (codes "image" ∷ codes "1" ∷ []) ∷ [])) (sym h.1)
+      (ap (λ (x : Lines). x ++ (codes "image" ∷ codes "1" ∷ []) ∷ []) is);
 }
 line-read Titled new line lines h is = record {
   fields = item_fields (Opening h.count (Some h.pages) h.ticket);
-  text = whole line (item_fields (Opening h.count (Some h.pages) h.ticket)) ((item-means line (Opening h.count (Some h.pages) h.ticket)).0 h.item).fields;
+  text = whole line (item_fields (Opening h.count (Some h.pages) h.ticket))
+      ((item-means line (Opening h.count (Some h.pages) h.ticket)).0 h.item).fields;
   read = opening-read line new lines h is;
 }
 line-read (Body s last lapics) new line lines h k =
     let d = (reading-means line h.0).0 h.1 in
-    record { fields = piece_fields h.0; text = whole line (piece_fields h.0) d.fields; read = piece-read s last lapics h.0 new lines d.fits h.2 k }
+    record {
+      fields = piece_fields h.0;
+      text = whole line (piece_fields h.0) d.fields;
+      read = piece-read s last lapics h.0 new lines d.fits h.2 k;
+    }
 
 record ReadsLines (text : List ℕ) (new : Stage) (lines : Lines) : Type 0 where
   more : Lines
   text_is : text ≡ text_of more
   read : HasRead new (lines ++ more)
 
-lines-read : (old new : Stage) (ls : List (List ℕ)) (lines : Lines) → Leads old ls new → HasRead old lines → ReadsLines (joined ls) new lines
+lines-read : (old new : Stage) (ls : List (List ℕ)) (lines : Lines) → Leads old ls new → HasRead old lines
+    → ReadsLines (joined ls) new lines
 lines-read old new [] lines h is = record {
   more = [];
   text_is = refl;
-  read = subst (λ (st : Stage). HasRead st (lines ++ [])) (sym h) (subst (λ (x : Lines). HasRead old x) (sym (append-nil lines)) is);
+  read = subst (λ (st : Stage). HasRead st (lines ++ [])) (sym h)
+      (subst (λ (x : Lines). HasRead old x) (sym (append-nil lines)) is);
 }
 lines-read old new (line ∷ ls) lines h is =
     let one = line-read old h.0 line lines h.2 is in
     let rest = lines-read h.0 new ls (lines ++ one.fields ∷ []) h.3 one.read in
     record {
       more = one.fields ∷ rest.more;
-      text_is = (λ i. one.text i ++ 10 ∷ rest.text_is i) ∙ sym (append_assoc (spaced one.fields) (10 ∷ []) (text_of rest.more));
+      text_is = (λ i. one.text i ++ 10 ∷ rest.text_is i)
+          ∙ sym (append_assoc (spaced one.fields) (10 ∷ []) (text_of rest.more));
       read = subst (λ (x : Lines). HasRead new x) (append_assoc lines (one.fields ∷ []) rest.more) rest.read;
     }
 
@@ -205,5 +237,6 @@ saved text s h =
 
     all-read : IsRead s (place_of pieces.End) h.complete.0 read.more → read.more ≡ image_lines s
     all-read w = w.same ∙ (λ i. titles (sym w.shaped.apics i) (sym w.shaped.pages i) (sym w.shaped.next i)
-        ++ (all_lines (sym w.shaped.apics i) (sym w.shaped.pages i) (printed s ((w.full refl ∙ sym w.shaped.apics) i)) ++ end_fields ∷ []))
+        ++ (all_lines (sym w.shaped.apics i) (sym w.shaped.pages i) (printed s ((w.full refl ∙ sym w.shaped.apics) i))
+        ++ end_fields ∷ []))
         ∙ image-printed s (w.shaped.ports ∙ (λ i. port_count (sym w.shaped.apics i) (nat_eq (sym w.shaped.pages i) 0)))

@@ -1,4 +1,5 @@
--- The spots of an image, in their order: where lines may be. Spots before a line stay when it is added, and those after it are empty.
+-- The spots of an image, in their order: where lines may be. Spots before a line stay when it is added, and those
+-- after it are empty.
 use Rattle.std.proofs.Common.{◌≡◌, ◌≢◌, Bool, true, false, nat_eq, ℕ, zero, suc, ◌+◌, ◌*◌, ◌<◌, ◌≤◌, List, [], ◌∷◌, ◌++◌, refl, sym, subst, ◌∙◌, arith}
 use Rattle.event_ports.specs.Ports.{port_count}
 use Rattle.text_image.specs.Image.{Lines, each_below}
@@ -64,7 +65,9 @@ abbrev pub Layout : Type 0
 Layout = Section → ℕ → ℕ → ℕ → Lines
 
 abbrev pub section_lines : ℕ → ℕ → Layout → Section → Lines
-section_lines n m lines section = each_below (first_size n m section) (λ a. each_below (second_size section) (λ b. each_below (third_size section) (λ c. lines section a b c)))
+section_lines n m lines section =
+    each_below (first_size n m section)
+    (λ a. each_below (second_size section) (λ b. each_below (third_size section) (λ c. lines section a b c)))
 
 abbrev pub all_lines : ℕ → ℕ → Layout → Lines
 all_lines n m lines = each_below 9 (λ k. section_lines n m lines (section_of k))
@@ -78,7 +81,8 @@ IsSpot n m section a b c = (a < first_size n m section) × (b < second_size sect
 
 -- two layouts differ at this place at most
 abbrev pub AgreeElsewhere : ℕ → ℕ → ℕ → Layout → Layout → Type 0
-AgreeElsewhere n m at old new = (σ : Section) (i j k : ℕ) → IsSpot n m σ i j k → place_at σ i j k ≢ at → new σ i j k ≡ old σ i j k
+AgreeElsewhere n m at old new =
+    (σ : Section) (i j k : ℕ) → IsSpot n m σ i j k → place_at σ i j k ≢ at → new σ i j k ≡ old σ i j k
 
 -- a layout has no lines after this place
 abbrev pub IsEmptyAfter : ℕ → ℕ → ℕ → Layout → Type 0
@@ -96,11 +100,13 @@ pub record AddsLine (n m : ℕ) (old new : Layout) (at : ℕ) (x : List (List �
   pub blank : IsEmptyAfter n m at old
   pub added : new section a b c ≡ old section a b c ++ x ∷ []
 
-pub all-empty : (n m : ℕ) (lines : Layout) → ((σ : Section) (a b c : ℕ) → IsSpot n m σ a b c → lines σ a b c ≡ []) → all_lines n m lines ≡ []
+pub all-empty : (n m : ℕ) (lines : Layout) → ((σ : Section) (a b c : ℕ) → IsSpot n m σ a b c → lines σ a b c ≡ [])
+    → all_lines n m lines ≡ []
 all-empty n m lines h = each-empty 9 (λ k. section_lines n m lines (section_of k)) (λ q _. none (section_of q))
   where
     none : (σ : Section) → section_lines n m lines σ ≡ []
-    none σ = each-empty (first_size n m σ) (λ a. each_below (second_size σ) (λ b. each_below (third_size σ) (λ c. lines σ a b c)))
+    none σ = each-empty (first_size n m σ)
+        (λ a. each_below (second_size σ) (λ b. each_below (third_size σ) (λ c. lines σ a b c)))
         (λ a below. each-empty (second_size σ) (λ b. each_below (third_size σ) (λ c. lines σ a b c))
         (λ b middle. each-empty (third_size σ) (λ c. lines σ a b c) (λ c inside. h σ a b c (below, middle, inside))))
 
@@ -189,33 +195,40 @@ low n m processors pages σ a b c h = record {
 }
 
 -- all spots are before the end
-pub before-end : (n m : ℕ) → n ≤ 64 → m ≤ 64 → (σ : Section) (a b c : ℕ) → IsSpot n m σ a b c → place_at σ a b c < place 10 0 0 0
-before-end n m processors pages σ a b c spot = let l = low n m processors pages σ a b c spot in omega (arith, l.first, l.second, l.third, few σ)
+pub before-end : (n m : ℕ) → n ≤ 64 → m ≤ 64 → (σ : Section) (a b c : ℕ) → IsSpot n m σ a b c
+    → place_at σ a b c < place 10 0 0 0
+before-end n m processors pages σ a b c spot =
+    let l = low n m processors pages σ a b c spot in omega (arith, l.first, l.second, l.third, few σ)
 
 -- All lines get that line at their end.
-module _ (n m : ℕ) (processors : n ≤ 64) (pages : m ≤ 64) (old new : Layout) (at : ℕ) (x : List (List ℕ)) (h : AddsLine n m old new at x) where
+module _ (n m : ℕ) (processors : n ≤ 64) (pages : m ≤ 64) (old new : Layout) (at : ℕ) (x : List (List ℕ))
+    (h : AddsLine n m old new at x) where
   here : IsLow n m h.section h.a h.b h.c
   here = low n m processors pages h.section h.a h.b h.c h.spot
 
-  in-row : each_below (third_size h.section) (new h.section h.a h.b) ≡ each_below (third_size h.section) (old h.section h.a h.b) ++ x ∷ []
+  in-row : each_below (third_size h.section) (new h.section h.a h.b)
+      ≡ each_below (third_size h.section) (old h.section h.a h.b) ++ x ∷ []
   in-row = each-grows (third_size h.section) h.c (old h.section h.a h.b) (new h.section h.a h.b) x (record {
     within = h.spot.2;
-    others = λ k below other. h.frame h.section h.a h.b k (h.spot.0, h.spot.1, below) (λ e. omega (arith, e, h.is, other));
+    others = λ k below other.
+        h.frame h.section h.a h.b k (h.spot.0, h.spot.1, below) (λ e. omega (arith, e, h.is, other));
     empty = λ k below later. h.blank h.section h.a h.b k (h.spot.0, h.spot.1, below) (omega (arith, h.is, later));
     here = h.added;
   })
 
   in-group : each_below (second_size h.section) (λ b. each_below (third_size h.section) (new h.section h.a b)) ≡
       each_below (second_size h.section) (λ b. each_below (third_size h.section) (old h.section h.a b)) ++ x ∷ []
-  in-group = each-grows (second_size h.section) h.b (λ b. each_below (third_size h.section) (old h.section h.a b)) (λ b. each_below (third_size h.section) (new h.section h.a b)) x (record {
-    within = h.spot.1;
-    others = λ j below other. each-same (third_size h.section) (old h.section h.a j) (new h.section h.a j)
-        (λ k inside. let s : IsSpot n m h.section h.a j k = (h.spot.0, below, inside) in
-        h.frame h.section h.a j k s (λ e. apart j k (low n m processors pages h.section h.a j k s) other e));
-    empty = λ j below later. each-empty (third_size h.section) (old h.section h.a j)
-        (λ k inside. let s : IsSpot n m h.section h.a j k = (h.spot.0, below, inside) in h.blank h.section h.a j k s (after j k (low n m processors pages h.section h.a j k s) later));
-    here = in-row;
-  })
+  in-group = each-grows (second_size h.section) h.b (λ b. each_below (third_size h.section) (old h.section h.a b))
+      (λ b. each_below (third_size h.section) (new h.section h.a b)) x (record {
+        within = h.spot.1;
+        others = λ j below other. each-same (third_size h.section) (old h.section h.a j) (new h.section h.a j)
+            (λ k inside. let s : IsSpot n m h.section h.a j k = (h.spot.0, below, inside) in
+            h.frame h.section h.a j k s (λ e. apart j k (low n m processors pages h.section h.a j k s) other e));
+        empty = λ j below later. each-empty (third_size h.section) (old h.section h.a j)
+            (λ k inside. let s : IsSpot n m h.section h.a j k = (h.spot.0, below, inside) in
+            h.blank h.section h.a j k s (after j k (low n m processors pages h.section h.a j k s) later));
+        here = in-row;
+      })
     where
       apart : (j k : ℕ) → IsLow n m h.section h.a j k → j ≢ h.b → place_at h.section h.a j k ≢ at
       apart j k l other e = omega (arith, e, h.is, other, l.third, here.third)
@@ -228,11 +241,14 @@ module _ (n m : ℕ) (processors : n ≤ 64) (pages : m ≤ 64) (old new : Layou
       (λ a. each_below (second_size h.section) (λ b. each_below (third_size h.section) (old h.section a b)))
       (λ a. each_below (second_size h.section) (λ b. each_below (third_size h.section) (new h.section a b))) x (record {
         within = h.spot.0;
-        others = λ i below other. each-same (second_size h.section) (λ b. each_below (third_size h.section) (old h.section i b)) (λ b. each_below (third_size h.section) (new h.section i b))
+        others = λ i below other.
+            each-same (second_size h.section) (λ b. each_below (third_size h.section) (old h.section i b))
+            (λ b. each_below (third_size h.section) (new h.section i b))
             (λ j middle. each-same (third_size h.section) (old h.section i j) (new h.section i j)
             (λ k inside. let s : IsSpot n m h.section i j k = (below, middle, inside) in
             h.frame h.section i j k s (λ e. apart i j k (low n m processors pages h.section i j k s) other e)));
-        empty = λ i below later. each-empty (second_size h.section) (λ b. each_below (third_size h.section) (old h.section i b))
+        empty = λ i below later.
+            each-empty (second_size h.section) (λ b. each_below (third_size h.section) (old h.section i b))
             (λ j middle. each-empty (third_size h.section) (old h.section i j)
             (λ k inside. h.blank h.section i j k (below, middle, inside) (after i j k later)));
         here = in-group;
@@ -245,15 +261,18 @@ module _ (n m : ℕ) (processors : n ≤ 64) (pages : m ≤ 64) (old new : Layou
       after i j k later = omega (arith, h.is, later, here.second, here.third)
 
   pub all-grow : all_lines n m new ≡ all_lines n m old ++ x ∷ []
-  all-grow = each-grows 9 (number h.section) (λ k. section_lines n m old (section_of k)) (λ k. section_lines n m new (section_of k)) x (record {
-    within = few h.section;
-    others = λ q below other. same (section_of q) (λ e. other (sym (numbered q below) ∙ e));
-    empty = λ q below later. none (section_of q) (omega (arith, numbered q below, later));
-    here = subst (λ (σ : Section). section_lines n m new σ ≡ section_lines n m old σ ++ x ∷ []) (sym (sectioned h.section)) in-section;
-  })
+  all-grow = each-grows 9 (number h.section) (λ k. section_lines n m old (section_of k))
+      (λ k. section_lines n m new (section_of k)) x (record {
+        within = few h.section;
+        others = λ q below other. same (section_of q) (λ e. other (sym (numbered q below) ∙ e));
+        empty = λ q below later. none (section_of q) (omega (arith, numbered q below, later));
+        here = subst (λ (σ : Section). section_lines n m new σ ≡ section_lines n m old σ ++ x ∷ [])
+            (sym (sectioned h.section)) in-section;
+      })
     where
       apart : (σ : Section) (i j k : ℕ) → IsLow n m σ i j k → number σ ≢ number h.section → place_at σ i j k ≢ at
-      apart σ i j k l other e = omega (arith, e, h.is, other, l.first, l.second, l.third, here.first, here.second, here.third)
+      apart σ i j k l other e =
+          omega (arith, e, h.is, other, l.first, l.second, l.third, here.first, here.second, here.third)
 
       after : (σ : Section) (i j k : ℕ) → number h.section < number σ → at < place_at σ i j k
       after σ i j k later = omega (arith, h.is, later, here.first, here.second, here.third)
@@ -262,13 +281,15 @@ module _ (n m : ℕ) (processors : n ≤ 64) (pages : m ≤ 64) (old new : Layou
       same σ other = each-same (first_size n m σ)
           (λ a. each_below (second_size σ) (λ b. each_below (third_size σ) (old σ a b)))
           (λ a. each_below (second_size σ) (λ b. each_below (third_size σ) (new σ a b)))
-          (λ i below. each-same (second_size σ) (λ b. each_below (third_size σ) (old σ i b)) (λ b. each_below (third_size σ) (new σ i b))
+          (λ i below. each-same (second_size σ) (λ b. each_below (third_size σ) (old σ i b))
+          (λ b. each_below (third_size σ) (new σ i b))
           (λ j middle. each-same (third_size σ) (old σ i j) (new σ i j)
           (λ k inside. let s : IsSpot n m σ i j k = (below, middle, inside) in
           h.frame σ i j k s (λ e. apart σ i j k (low n m processors pages σ i j k s) other e))))
 
       none : (σ : Section) → number h.section < number σ → section_lines n m old σ ≡ []
-      none σ later = each-empty (first_size n m σ) (λ a. each_below (second_size σ) (λ b. each_below (third_size σ) (old σ a b)))
+      none σ later =
+          each-empty (first_size n m σ) (λ a. each_below (second_size σ) (λ b. each_below (third_size σ) (old σ a b)))
           (λ i below. each-empty (second_size σ) (λ b. each_below (third_size σ) (old σ i b))
           (λ j middle. each-empty (third_size σ) (old σ i j)
           (λ k inside. h.blank σ i j k (below, middle, inside) (after σ i j k later))))

@@ -22,19 +22,23 @@ record SplitLeads (old : Stage) (first rest : List (List ℕ)) (new : Stage) : T
   before : Leads old first between
   after : Leads between rest new
 
-leads-split : (old : Stage) (first rest : List (List ℕ)) (new : Stage) → Leads old (first ++ rest) new → SplitLeads old first rest new
+leads-split : (old : Stage) (first rest : List (List ℕ)) (new : Stage) → Leads old (first ++ rest) new
+    → SplitLeads old first rest new
 leads-split old [] rest new h = record { between = old; before = refl; after = h }
 leads-split old (line ∷ first) rest new h =
     let more = leads-split h.0 first rest new h.3 in
     record { between = more.between; before = (h.0, h.1, h.2, more.before); after = more.after }
 
 -- an image is not stuck at any of its lines
-not-stuck : (stage new : Stage) (left : List (List ℕ)) (rest : List ℕ) (s : State) → Leads stage left new → IsComplete new s → rest ≡ [] → IsStuck stage left rest → ⊥
+not-stuck : (stage new : Stage) (left : List (List ℕ)) (rest : List ℕ) (s : State) → Leads stage left new
+    → IsComplete new s → rest ≡ [] → IsStuck stage left rest → ⊥
 not-stuck stage new [] rest s h complete whole stuck = stuck s (subst (λ (x : Stage). IsComplete x s) h complete) whole
 not-stuck stage new (line ∷ left) rest s h complete whole stuck = stuck h.0 h.1 h.2
 
 pub no-wrong-line : (text : List ℕ) (s : State) (k : ℕ) → IsImage text s → FirstWrong text k → ⊥
 no-wrong-line text s k h w =
-    let parts = leads-split Untitled w.lines w.left h.stage (subst (λ (ls : List (List ℕ)). Leads Untitled ls h.stage) w.split h.leads) in
+    let parts = leads-split Untitled w.lines w.left h.stage
+    (subst (λ (ls : List (List ℕ)). Leads Untitled ls h.stage) w.split h.leads) in
     let same = one-stage Untitled w.lines parts.between w.stage parts.before w.leads in
-    not-stuck w.stage h.stage w.left (rest_of text) s (subst (λ (x : Stage). Leads x w.left h.stage) same parts.after) h.complete h.whole w.stuck
+    not-stuck w.stage h.stage w.left (rest_of text) s
+    (subst (λ (x : Stage). Leads x w.left h.stage) same parts.after) h.complete h.whole w.stuck

@@ -17,7 +17,8 @@ use Rattle.text_restore.proofs.Short.{piece-written}
 -- lines, by their fields, that lead from one stage to another
 abbrev pub Walks : Stage → Lines → Stage → Type 0
 Walks old [] new = new ≡ old
-Walks old (fields ∷ lines) new = (next : Stage) × IsWritten fields × Follows old (spaced fields) next × Walks next lines new
+Walks old (fields ∷ lines) new =
+    (next : Stage) × IsWritten fields × Follows old (spaced fields) next × Walks next lines new
 
 pub walks-append : (a b c : Stage) (xs ys : Lines) → Walks a xs b → Walks b ys c → Walks a (xs ++ ys) c
 walks-append a b c [] ys h k = subst (λ (st : Stage). Walks st ys c) h k
@@ -27,15 +28,18 @@ walks-append a b c (x ∷ xs) ys h k = (h.0, h.1, h.2, walks-append h.0 b c xs y
 pub walks-lead : (a b : Stage) (lines : Lines) → Walks a lines b → Leads a (lines_of (text_of lines)) b
 walks-lead a b [] h = h
 walks-lead a b (x ∷ lines) h = subst (λ (ls : List (List ℕ)). Leads a ls b)
-    (sym (ap lines_of (append_assoc (spaced x) (10 ∷ []) (text_of lines)) ∙ lines_of-line (spaced x) (text_of lines) h.1.one))
+    (sym (ap lines_of (append_assoc (spaced x) (10 ∷ []) (text_of lines))
+    ∙ lines_of-line (spaced x) (text_of lines) h.1.one))
     (h.0, h.1.short, h.2, walks-lead h.0 b lines h.3)
 
 pub walks-whole : (a b : Stage) (lines : Lines) → Walks a lines b → rest_of (text_of lines) ≡ []
 walks-whole a b [] h = refl
 walks-whole a b (x ∷ lines) h =
-    ap rest_of (append_assoc (spaced x) (10 ∷ []) (text_of lines)) ∙ rest_of-line (spaced x) (text_of lines) h.1.one ∙ walks-whole h.0 b lines h.3
+    ap rest_of (append_assoc (spaced x) (10 ∷ []) (text_of lines)) ∙ rest_of-line (spaced x) (text_of lines) h.1.one
+    ∙ walks-whole h.0 b lines h.3
 
--- A point on the way through an image: the state to which the pieces so far lead, how many local APICs they have, and a place that all of them are before.
+-- A point on the way through an image: the state to which the pieces so far lead, how many local APICs they have, and
+-- a place that all of them are before.
 pub record Point : Type 0 where
   pub board : State
   pub lapics : ℕ
@@ -59,31 +63,47 @@ passes-append p q r xs ys h k = record {
   from = λ last below.
       let a = h.from last below in
       let b = k.from a.now a.before in
-      record { now = b.now; before = b.before; walk = walks-append (Body p.board last p.lapics) (Body q.board a.now q.lapics) (Body r.board b.now r.lapics) xs ys a.walk b.walk };
+      record {
+        now = b.now;
+        before = b.before;
+        walk =
+            walks-append (Body p.board last p.lapics) (Body q.board a.now q.lapics)
+            (Body r.board b.now r.lapics) xs ys a.walk b.walk;
+      };
 }
 
 -- the lines of the numbers below n
-pub passes-each : (n : ℕ) (f : ℕ → Lines) (at : ℕ → Point) → ((k : ℕ) → k < n → Passes (at k) (f k) (at (suc k))) → Passes (at 0) (each_below n f) (at n)
+pub passes-each : (n : ℕ) (f : ℕ → Lines) (at : ℕ → Point) → ((k : ℕ) → k < n → Passes (at k) (f k) (at (suc k)))
+    → Passes (at 0) (each_below n f) (at n)
 unfolding each_below
 passes-each zero f at h = record { from = λ last below. record { now = last; before = below; walk = refl } }
-passes-each (suc n) f at h = passes-append (at 0) (at n) (at (suc n)) (each_below n f) (f n) (passes-each n f at (λ k below. h k (omega arith))) (h n (omega arith))
+passes-each (suc n) f at h =
+    passes-append (at 0) (at n) (at (suc n)) (each_below n f) (f n)
+    (passes-each n f at (λ k below. h k (omega arith))) (h n (omega arith))
 
 -- no line, and the same state
 pub passes-none : (p q : Point) → q.board ≡ p.board → q.lapics ≡ p.lapics → p.at ≤ q.at → Passes p [] q
 passes-none p q board lapics at = record {
-  from = λ last below. record { now = last; before = omega (arith, below, at); walk = (λ i. Body (board i) last (lapics i)) };
+  from = λ last below. record {
+    now = last;
+    before = omega (arith, below, at);
+    walk = (λ i. Body (board i) last (lapics i));
+  };
 }
 
 -- the same state, at a place that is not earlier
-pub passes-from : (p p' q : Point) (lines : Lines) → p'.board ≡ p.board → p'.lapics ≡ p.lapics → p.at ≤ p'.at → Passes p' lines q → Passes p lines q
+pub passes-from : (p p' q : Point) (lines : Lines) → p'.board ≡ p.board → p'.lapics ≡ p.lapics → p.at ≤ p'.at
+    → Passes p' lines q → Passes p lines q
 passes-from p p' q lines board lapics at h = passes-append p p' q [] lines (passes-none p p' board lapics at) h
 
-pub passes-to : (p q q' : Point) (lines : Lines) → q'.board ≡ q.board → q'.lapics ≡ q.lapics → q.at ≤ q'.at → Passes p lines q → Passes p lines q'
+pub passes-to : (p q q' : Point) (lines : Lines) → q'.board ≡ q.board → q'.lapics ≡ q.lapics → q.at ≤ q'.at
+    → Passes p lines q → Passes p lines q'
 passes-to p q q' lines board lapics at h = record {
   from = λ last below. let a = h.from last below in record {
     now = a.now;
     before = omega (arith, a.before, at);
-    walk = subst (λ (st : Stage). Walks (Body p.board last p.lapics) lines st) (sym (λ i. Body (board i) a.now (lapics i))) a.walk;
+    walk = subst (λ (st : Stage). Walks (Body p.board last p.lapics) lines st)
+        (sym (λ i. Body (board i) a.now (lapics i))) a.walk;
   };
 }
 
@@ -115,6 +135,7 @@ passes-one p x q h = record {
 }
 
 -- a line that is left out where the board is as newly opened
-pub passes-unless : (b : Bool) (p : Point) (x : Piece) (q : Point) → (b ≡ true → Passes p [] q) → (b ≡ false → Fits p x q) → Passes p (cond b [] (piece_fields x ∷ [])) q
+pub passes-unless : (b : Bool) (p : Point) (x : Piece) (q : Point) → (b ≡ true → Passes p [] q)
+    → (b ≡ false → Fits p x q) → Passes p (cond b [] (piece_fields x ∷ [])) q
 passes-unless true p x q same new = same refl
 passes-unless false p x q same new = passes-one p x q (new refl)

@@ -29,5 +29,6 @@ pub fn boards_that_differ_in_local_apics_answer_alike()
 /// The events of a local APIC alone, `take` and writes of EOI and TPR, change nothing but that local APIC,
 /// and emit nothing.
 pub fn a_local_apics_own_events_change_nothing_else()
-    ensures { (s : State) (event : Event) → is_apics_own event ≡ true → (idle (step s event).0 ≡ idle s) × ((step s event).2 ≡ []) }
+    ensures { (s : State) (event : Event) → is_apics_own event ≡ true → (idle (step s event).0 ≡ idle s)
+        × ((step s event).2 ≡ []) }
 {}

@@ -11,7 +11,15 @@ use Rattle.live_pages.specs.Headers.{Slot, Step, is_occupied, may, after, are_st
 use Rattle.live_pages.proofs.Protocol.{kept, preserved, never_stuck}
 
 abbrev pub world_of : Slot → protocol.World
-world_of s = record { occupied = is_occupied s.header; pending = is_pending s.header; buffered = s.buffered; queued = s.queued; host = s.host; guest = s.guest }
+world_of s =
+    record {
+      occupied = is_occupied s.header;
+      pending = is_pending s.header;
+      buffered = s.buffered;
+      queued = s.queued;
+      host = s.host;
+      guest = s.guest;
+    }
 
 abbrev move_of : Step → protocol.Move
 move_of posts = protocol.post
@@ -52,31 +60,66 @@ or_false : (b : Bool) → (b || false) ≡ b
 or_false b = grind arith
 
 -- a step is a move that may come next, and leads to its world
-moves : (s : Slot) (x : Step) → may s x ≡ true → (protocol.may protocol.careful (world_of s) (move_of x) ≡ true) × (world_of (after s x) ≡ protocol.after protocol.careful (world_of s) (move_of x))
+moves : (s : Slot) (x : Step) → may s x ≡ true → (protocol.may protocol.careful (world_of s) (move_of x) ≡ true)
+    × (world_of (after s x) ≡ protocol.after protocol.careful (world_of s) (move_of x))
 moves s posts m = (m, refl)
 moves s looks m = (m, refl)
 moves s skips m = (m, refl)
 moves s marks m =
-    let o : is_occupied (bit_or s.header pending_mask) ≡ is_occupied s.header = ap (λ t. not (t == 0)) (mark_type s.header) in
-    let h = ap (λ (b : Bool). if b then protocol.idle else protocol.filling) (sym (or_false (is_occupied s.header))) in
-    (m, λ i. record { occupied = o i; pending = mark_pending s.header i; buffered = s.buffered; queued = s.queued; host = h i; guest = s.guest })
+    let o : is_occupied (bit_or s.header pending_mask) ≡ is_occupied s.header =
+    ap (λ t. not (t == 0)) (mark_type s.header) in
+    let h = ap (λ (b : Bool). if b then protocol.idle else protocol.filling)
+    (sym (or_false (is_occupied s.header))) in (
+      m,
+      λ i. record {
+        occupied = o i;
+        pending = mark_pending s.header i;
+        buffered = s.buffered;
+        queued = s.queued;
+        host = h i;
+        guest = s.guest;
+      },
+    )
 moves s (fills w) m =
-    let parts = both (protocol.host_is s.host protocol.filling && nat_lt 0 s.queued) (is_occupied w && (if nat_lt 0 (protocol.one_less s.queued) then is_pending w else not (is_pending w))) m in
-    let word = both (is_occupied w) (if nat_lt 0 (protocol.one_less s.queued) then is_pending w else not (is_pending w)) parts.1 in
-    let f = flag_is (nat_lt 0 (protocol.one_less s.queued)) (is_pending w) word.1 in
-    (parts.0, λ i. record { occupied = word.0 i; pending = f i; buffered = s.buffered; queued = protocol.one_less s.queued; host = protocol.idle; guest = s.guest })
+    let parts = both (protocol.host_is s.host protocol.filling && nat_lt 0 s.queued)
+    (is_occupied w && (if nat_lt 0 (protocol.one_less s.queued) then is_pending w else not (is_pending w))) m in
+    let word = both (is_occupied w)
+    (if nat_lt 0 (protocol.one_less s.queued) then is_pending w else not (is_pending w)) parts.1 in
+    let f = flag_is (nat_lt 0 (protocol.one_less s.queued)) (is_pending w) word.1 in (
+      parts.0,
+      λ i. record {
+        occupied = word.0 i;
+        pending = f i;
+        buffered = s.buffered;
+        queued = protocol.one_less s.queued;
+        host = protocol.idle;
+        guest = s.guest;
+      },
+    )
 moves s clears m = (m, refl)
-moves s drains m = (m, λ i. record { occupied = clear_type s.header i; pending = clear_pending s.header i; buffered = false; queued = s.queued; host = s.host; guest = s.guest })
+moves s drains m = (
+  m,
+  λ i. record {
+    occupied = clear_type s.header i;
+    pending = clear_pending s.header i;
+    buffered = false;
+    queued = s.queued;
+    host = s.host;
+    guest = s.guest;
+  },
+)
 moves s sees m = (m, refl)
 moves s ends m = (m, refl)
 
-pub runs : (s : Slot) (steps : List Step) → kept (world_of s) ≡ true → are_steps s steps ≡ true → is_stuck (led_to s steps) ≡ false
+pub runs : (s : Slot) (steps : List Step) → kept (world_of s) ≡ true → are_steps s steps ≡ true
+    → is_stuck (led_to s steps) ≡ false
 runs s [] k m = never_stuck (world_of s) [] k refl
 runs s (x ∷ xs) k m =
     let parts = both (may s x) (are_steps (after s x) xs) m in
     let goes = moves s x parts.0 in
     let w = world_of s in
-    runs (after s x) xs (ap kept goes.1 ∙ preserved (move_of x) w.occupied w.pending w.buffered w.queued w.host w.guest k goes.0) parts.1
+    runs (after s x) xs (ap kept goes.1
+    ∙ preserved (move_of x) w.occupied w.pending w.buffered w.queued w.host w.guest k goes.0) parts.1
 
 pub no_wake_up_is_missed : NoWakeUpIsMissed
 no_wake_up_is_missed steps m = runs start steps refl m

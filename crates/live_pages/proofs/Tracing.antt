@@ -34,12 +34,15 @@ set_at words page x n is w lt =
     (λ other. rw (apart w x other) (get_or-set_other words x w n 0 other ∙ is w wide))
 
 -- a list whose word is set to what it was
-set_same : (words : List ℕ) (page : ℕ → ℕ) (x : ℕ) → x < length words → ((w : ℕ) → w < length words → slice_index words w ≡ page w)
-    → (w : ℕ) → w < length (set words x (slice_index words x)) → slice_index (set words x (slice_index words x)) w ≡ page w
+set_same : (words : List ℕ) (page : ℕ → ℕ) (x : ℕ) → x < length words
+    → ((w : ℕ) → w < length words → slice_index words w ≡ page w)
+    → (w : ℕ) → w < length (set words x (slice_index words x))
+    → slice_index (set words x (slice_index words x)) w ≡ page w
 set_same words page x wide is w lt =
     let long = length-set words x (slice_index words x) in
     dite (ℕ_discrete w x)
-    (λ here. ap (slice_index (set words x (slice_index words x))) here ∙ get_or-set_same words x (slice_index words x) 0 wide ∙ is x wide ∙ ap page (sym here))
+    (λ here. ap (slice_index (set words x (slice_index words x))) here
+    ∙ get_or-set_same words x (slice_index words x) 0 wide ∙ is x wide ∙ ap page (sym here))
     (λ other. get_or-set_other words x w (slice_index words x) 0 other ∙ is w (omega arith))
 
 one_seat : (log v : List Access) (id : ℕ) → get_elem? (log ∷ []) id ≡ some v → (id ≡ 0) × (v ≡ log)
@@ -49,7 +52,8 @@ one_seat log v (suc id) at = absurd (some_none at)
     some_none : none ≡ some v → ⊥
     some_none e = grind arith
 
-kept : (key id : ℕ) (v : List Access) (s : State (Unit {0}) (List Access)) (words : List ℕ) (homes : List (Option (Unit {0}))) (a : Access) → IsOpen key s → get_elem? s.views id ≡ some v
+kept : (key id : ℕ) (v : List Access) (s : State (Unit {0}) (List Access)) (words : List ℕ)
+    (homes : List (Option (Unit {0}))) (a : Access) → IsOpen key s → get_elem? s.views id ≡ some v
     → length words ≡ length s.words → ((log : List Access) → IsTraced s.words log → IsTraced words (a ∷ log))
     → IsOpen key record { words = words; homes = homes; views = set s.views id (a ∷ v) }
 kept key id v s words homes a h at long goes =
@@ -61,7 +65,8 @@ kept key id v s words homes a h at long goes =
       traced = subst (λ log. IsTraced words (a ∷ log)) (sym one.1) (goes h.log h.traced);
     }
 
-pub looks : (key slots id i : ℕ) (me : Me (Unit {0}) (List Access)) → i < 512 → Allows (IsOpen key) slots id me i (λ n. n) (loaded_as (step slots i 0 0 none) me)
+pub looks : (key slots id i : ℕ) (me : Me (Unit {0}) (List Access)) → i < 512
+    → Allows (IsOpen key) slots id me i (λ n. n) (loaded_as (step slots i 0 0 none) me)
 looks key slots id i me wide s h homes at fits =
     let n = slice_index s.words i in
     let inside : i < length s.words = omega (arith, h.width) in (
@@ -69,29 +74,49 @@ looks key slots id i me wide s h homes at fits =
       keeps,
       tt,
       kept key id me.0 s (set s.words i n) s.homes (Load i n) h at (length-set s.words i n)
-          (λ log t. record { turns = by_host (Load i n) ∷ t.turns; history = (t.leaves i inside, t.history); host = ap (λ l. Load i n ∷ l) t.host; leaves = set_same s.words (memory t.turns) i inside t.leaves }),
+          (λ log t. record {
+            turns = by_host (Load i n) ∷ t.turns;
+            history = (t.leaves i inside, t.history);
+            host = ap (λ l. Load i n ∷ l) t.host;
+            leaves = set_same s.words (memory t.turns) i inside t.leaves;
+          }),
       (refl, refl),
     )
 
-pub ors : (key slots id i mask : ℕ) (me : Me (Unit {0}) (List Access)) → i < 512 → Allows (IsOpen key) slots id me i (λ n. bit_or n mask) (ored_as (step slots i mask 0 none) me)
+pub ors : (key slots id i mask : ℕ) (me : Me (Unit {0}) (List Access)) → i < 512
+    → Allows (IsOpen key) slots id me i (λ n. bit_or n mask) (ored_as (step slots i mask 0 none) me)
 ors key slots id i mask me wide s h homes at fits =
     let n = slice_index s.words i in
     let inside : i < length s.words = omega (arith, h.width) in (
       FetchOr i mask n ∷ me.0,
       keeps,
       tt,
-      kept key id me.0 s (set s.words i (bit_or n mask)) s.homes (FetchOr i mask n) h at (length-set s.words i (bit_or n mask))
-          (λ log t. record { turns = by_host (FetchOr i mask n) ∷ t.turns; history = (t.leaves i inside, t.history); host = ap (λ l. FetchOr i mask n ∷ l) t.host; leaves = set_at s.words (memory t.turns) i (bit_or n mask) t.leaves }),
+      kept key id me.0 s (set s.words i (bit_or n mask)) s.homes (FetchOr i mask n) h at
+          (length-set s.words i (bit_or n mask))
+          (λ log t. record {
+            turns = by_host (FetchOr i mask n) ∷ t.turns;
+            history = (t.leaves i inside, t.history);
+            host =
+                ap (λ l. FetchOr i mask n ∷ l) t.host;
+            leaves =
+                set_at s.words (memory t.turns) i (bit_or n mask) t.leaves;
+          }),
       (refl, refl),
     )
 
-pub sets : (key slots id i value : ℕ) (me : Me (Unit {0}) (List Access)) → i < 512 → Allows (IsOpen key) slots id me i (λ _. value) (λ _. stored_as (step slots i value 0 none) me value)
+pub sets : (key slots id i value : ℕ) (me : Me (Unit {0}) (List Access)) → i < 512
+    → Allows (IsOpen key) slots id me i (λ _. value) (λ _. stored_as (step slots i value 0 none) me value)
 sets key slots id i value me wide s h homes at fits = (
   Store i value ∷ me.0,
   keeps,
   tt,
   kept key id me.0 s (set s.words i value) s.homes (Store i value) h at (length-set s.words i value)
-      (λ log t. record { turns = by_host (Store i value) ∷ t.turns; history = (tt, t.history); host = ap (λ l. Store i value ∷ l) t.host; leaves = set_at s.words (memory t.turns) i value t.leaves }),
+      (λ log t. record {
+        turns = by_host (Store i value) ∷ t.turns;
+        history = (tt, t.history);
+        host = ap (λ l. Store i value ∷ l) t.host;
+        leaves = set_at s.words (memory t.turns) i value t.leaves;
+      }),
   (refl, refl),
 )
 
@@ -102,13 +127,25 @@ zeros (suc n) (suc w) = zeros n w
 
 -- nothing has happened to a page of zeros
 pub opens : (key : ℕ) → IsOpen key (opening (replicate 512 0) [] [])
-opens key = record { log = []; views = refl; width = refl; traced = record { turns = []; history = tt; host = refl; leaves = λ w lt. zeros 512 w } }
+opens key = record {
+  log = [];
+  views = refl;
+  width = refl;
+  traced = record { turns = []; history = tt; host = refl; leaves = λ w lt. zeros 512 w };
+}
 
 pub anybody_may_write : AnybodyMayWrite
-anybody_may_write words log w value t = record { turns = by_guest w value ∷ t.turns; history = t.history; host = t.host; leaves = set_at words (memory t.turns) w value t.leaves }
+anybody_may_write words log w value t =
+    record {
+      turns = by_guest w value ∷ t.turns;
+      history = t.history;
+      host = t.host;
+      leaves = set_at words (memory t.turns) w value t.leaves;
+    }
 
 -- a write that does not clear a bit
-kept-bit : (w x value rest bit : ℕ) → (x ≡ w → bit_at value bit ≡ 1) → bit_at rest bit ≡ 1 → bit_at (if w == x then value else rest) bit ≡ 1
+kept-bit : (w x value rest bit : ℕ) → (x ≡ w → bit_at value bit ≡ 1) → bit_at rest bit ≡ 1
+    → bit_at (if w == x then value else rest) bit ≡ 1
 kept-bit w x value rest bit leaves is = dite (ℕ_discrete w x)
     (λ here. rw (same w x here) (leaves (sym here)))
     (λ other. rw (apart w x other) is)
@@ -118,7 +155,8 @@ or-bit found mask bit (inl is) = bit_at_or found mask bit ∙ rw is (max-eq_left
 or-bit found mask bit (inr is) = bit_at_or found mask bit ∙ rw is (max-eq_right (omega (arith, bit_at-lt found bit)))
 
 -- an or at a word whose bit is set
-kept-or : (w x mask seen rest bit : ℕ) → (x ≡ w → seen ≡ rest) → bit_at rest bit ≡ 1 → bit_at (if w == x then bit_or seen mask else rest) bit ≡ 1
+kept-or : (w x mask seen rest bit : ℕ) → (x ≡ w → seen ≡ rest) → bit_at rest bit ≡ 1
+    → bit_at (if w == x then bit_or seen mask else rest) bit ≡ 1
 kept-or w x mask seen rest bit finds is = dite (ℕ_discrete w x)
     (λ here. rw (same w x here) (or-bit seen mask bit (inl (ap (λ n. bit_at n bit) (finds (sym here)) ∙ is))))
     (λ other. rw (apart w x other) is)
@@ -126,13 +164,19 @@ kept-or w x mask seen rest bit finds is = dite (ℕ_discrete w x)
 pub a_signalled_flag_stays : ASignalledFlagStays
 a_signalled_flag_stays [] earlier w mask found bit h set ok = rw (same w w refl) (or-bit found mask bit (inr set))
 a_signalled_flag_stays (by_guest x value ∷ later) earlier w mask found bit h set ok =
-    kept-bit w x value (memory (later ++ by_host (FetchOr w mask found) ∷ earlier) w) bit (All-head (Leaves w bit) (by_guest x value) later ok)
+    kept-bit w x value (memory (later ++ by_host (FetchOr w mask found) ∷ earlier) w) bit
+    (All-head (Leaves w bit) (by_guest x value) later ok)
     (a_signalled_flag_stays later earlier w mask found bit h set (All-tail (Leaves w bit) (by_guest x value) later ok))
 a_signalled_flag_stays (by_host (Load x seen) ∷ later) earlier w mask found bit h set ok =
-    a_signalled_flag_stays later earlier w mask found bit h.1 set (All-tail (Leaves w bit) (by_host (Load x seen)) later ok)
+    a_signalled_flag_stays later earlier w mask found bit h.1 set
+    (All-tail (Leaves w bit) (by_host (Load x seen)) later ok)
 a_signalled_flag_stays (by_host (FetchOr x more seen) ∷ later) earlier w mask found bit h set ok =
-    kept-or w x more seen (memory (later ++ by_host (FetchOr w mask found) ∷ earlier) w) bit (λ here. h.0 ∙ ap (memory (later ++ by_host (FetchOr w mask found) ∷ earlier)) here)
-    (a_signalled_flag_stays later earlier w mask found bit h.1 set (All-tail (Leaves w bit) (by_host (FetchOr x more seen)) later ok))
+    kept-or w x more seen (memory (later ++ by_host (FetchOr w mask found) ∷ earlier) w) bit
+    (λ here. h.0 ∙ ap (memory (later ++ by_host (FetchOr w mask found) ∷ earlier)) here)
+    (a_signalled_flag_stays later earlier w mask found bit h.1 set
+    (All-tail (Leaves w bit) (by_host (FetchOr x more seen)) later ok))
 a_signalled_flag_stays (by_host (Store x value) ∷ later) earlier w mask found bit h set ok =
-    kept-bit w x value (memory (later ++ by_host (FetchOr w mask found) ∷ earlier) w) bit (All-head (Leaves w bit) (by_host (Store x value)) later ok)
-    (a_signalled_flag_stays later earlier w mask found bit h.1 set (All-tail (Leaves w bit) (by_host (Store x value)) later ok))
+    kept-bit w x value (memory (later ++ by_host (FetchOr w mask found) ∷ earlier) w) bit
+    (All-head (Leaves w bit) (by_host (Store x value)) later ok)
+    (a_signalled_flag_stays later earlier w mask found bit h.1 set
+    (All-tail (Leaves w bit) (by_host (Store x value)) later ok))

@@ -12,4 +12,6 @@ flag_mask flag = 2 ^ (flag % 64)
 
 -- a signal is one atomic or of the flag's bit; the flag was clear iff the or found it clear
 abbrev pub IsSignal : ℕ → ℕ → List Access → List Access → Bool → Type 0
-IsSignal sint flag log now clear = (found : ℕ) × (clear ≡ (bit_at found (flag % 64) == 0)) × (now ≡ FetchOr (flag_word sint flag) (flag_mask flag) found ∷ log)
+IsSignal sint flag log now clear =
+    (found : ℕ) × (clear ≡ (bit_at found (flag % 64) == 0))
+    × (now ≡ FetchOr (flag_word sint flag) (flag_mask flag) found ∷ log)

@@ -6,7 +6,8 @@ use Rattle.live_pages.specs.Protocol.{HostAt, GuestAt, host_is, guest_is, one_le
 abbrev pub is_occupied : ℕ → Bool
 is_occupied header = not (type_of header == 0)
 
--- the header in memory, whether a guest's store of type 0 is in its buffer, how many messages are queued, and where the two are
+-- the header in memory, whether a guest's store of type 0 is in its buffer, how many messages are queued, and where
+-- the two are
 pub record Slot : Type 0 where
   pub header : ℕ
   pub buffered : Bool
@@ -15,13 +16,15 @@ pub record Slot : Type 0 where
   pub guest : GuestAt
 
 pub data Step : Type 0 where
-  -- the host queues a message, loads the header, finds it occupied and marked, marks it by an atomic or, stores the header of a message
+  -- the host queues a message, loads the header, finds it occupied and marked, marks it by an atomic or, stores the
+  -- header of a message
   posts : Step
   looks : Step
   skips : Step
   marks : Step
   fills : ℕ → Step
-  -- the guest stores 0 in the four bytes of the type; the store reaches memory; the guest loads the flags after a barrier; it writes EOM
+  -- the guest stores 0 in the four bytes of the type; the store reaches memory; the guest loads the flags after a
+  -- barrier; it writes EOM
   clears : Step
   drains : Step
   sees : Step
@@ -32,7 +35,9 @@ may s posts = host_is s.host idle
 may s looks = host_is s.host looking
 may s skips = host_is s.host looking && (is_occupied s.header && is_pending s.header)
 may s marks = host_is s.host marking
-may s (fills w) = (host_is s.host filling && nat_lt 0 s.queued) && (is_occupied w && (if nat_lt 0 (one_less s.queued) then is_pending w else not (is_pending w)))
+may s (fills w) =
+    (host_is s.host filling && nat_lt 0 s.queued)
+    && (is_occupied w && (if nat_lt 0 (one_less s.queued) then is_pending w else not (is_pending w)))
 may s clears = (guest_is s.guest resting && is_occupied s.header) && not s.buffered
 may s drains = s.buffered
 may s sees = guest_is s.guest cleared && not s.buffered
@@ -42,7 +47,8 @@ abbrev pub after : Slot → Step → Slot
 after s posts = record s { queued = suc s.queued; host = looking }
 after s looks = record s { host = if is_occupied s.header then marking else filling }
 after s skips = record s { host = idle }
-after s marks = record s { header = bit_or s.header pending_mask; host = if is_occupied s.header then idle else filling }
+after s marks =
+    record s { header = bit_or s.header pending_mask; host = if is_occupied s.header then idle else filling }
 after s (fills w) = record s { header = w; queued = one_less s.queued; host = idle }
 after s clears = record s { buffered = true; guest = cleared }
 after s drains = record s { header = s.header - type_of s.header; buffered = false }
@@ -62,7 +68,9 @@ start = record { header = 0; buffered = false; queued = 0; host = idle; guest = 
 
 -- a message is queued, the slot is empty, and neither of the two will move
 abbrev pub is_stuck : Slot → Bool
-is_stuck s = ((nat_lt 0 s.queued && not (is_occupied s.header)) && not s.buffered) && (host_is s.host idle && guest_is s.guest resting)
+is_stuck s =
+    ((nat_lt 0 s.queued && not (is_occupied s.header)) && not s.buffered)
+    && (host_is s.host idle && guest_is s.guest resting)
 
 -- no steps of the two lead to such a state
 abbrev pub NoWakeUpIsMissed : Type 0

@@ -1,4 +1,5 @@
--- A host and a guest at one message slot (TLFS, "SynIC Message Flags"), step by step, on a processor that delays stores (x86-TSO):
+-- A host and a guest at one message slot (TLFS, "SynIC Message Flags"), step by step, on a processor that delays
+-- stores (x86-TSO):
 -- a guest's store is in its buffer until it drains, and a barrier makes the guest wait until then.
 use Rattle.std.specs.Prelude.{◌≡◌, ℕ, zero, suc, Bool, true, false, not, ◌&&◌, ◌||◌, nat_lt, List, [], ◌∷◌, if◌then◌else◌}
 
@@ -39,7 +40,8 @@ pub data Move : Type 0 where
   flags : Move
   eom : Move
 
--- which precautions the two take: whether the host looks at the type that a mark found, and whether the guest has a barrier before it loads the flags
+-- which precautions the two take: whether the host looks at the type that a mark found, and whether the guest has a
+-- barrier before it loads the flags
 pub record Precautions : Type 0 where
   pub looks_again : Bool
   pub has_barrier : Bool
@@ -78,7 +80,8 @@ after m w post = record w { queued = suc w.queued; host = looking }
 after m w look = record w { host = if w.occupied then marking else filling }
 after m w skip = record w { host = idle }
 after m w mark = record w { pending = true; host = if w.occupied || not m.looks_again then idle else filling }
-after m w fill = record w { occupied = true; pending = nat_lt 0 (one_less w.queued); queued = one_less w.queued; host = idle }
+after m w fill =
+    record w { occupied = true; pending = nat_lt 0 (one_less w.queued); queued = one_less w.queued; host = idle }
 after m w clear = record w { buffered = true; guest = cleared }
 after m w drain = record w { occupied = false; buffered = false }
 after m w flags = record w { guest = if w.pending then ending else resting }
@@ -98,14 +101,16 @@ start = record { occupied = false; pending = false; buffered = false; queued = 0
 
 -- a message is queued, the slot is empty, and neither of the two will move
 abbrev pub is_stuck : World → Bool
-is_stuck w = ((nat_lt 0 w.queued && not w.occupied) && not w.buffered) && (host_is w.host idle && guest_is w.guest resting)
+is_stuck w =
+    ((nat_lt 0 w.queued && not w.occupied) && not w.buffered) && (host_is w.host idle && guest_is w.guest resting)
 
 abbrev pub careful : Precautions
 careful = record { looks_again = true; has_barrier = true }
 
 -- no moves of the two lead to such a state
 abbrev pub NoWakeUpIsMissed : Type 0
-NoWakeUpIsMissed = (moves : List Move) → are_moves careful start moves ≡ true → is_stuck (led_to careful start moves) ≡ false
+NoWakeUpIsMissed =
+    (moves : List Move) → are_moves careful start moves ≡ true → is_stuck (led_to careful start moves) ≡ false
 
 -- without either precaution, some moves do
 abbrev pub blind_moves : List Move

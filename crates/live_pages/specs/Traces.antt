@@ -43,7 +43,8 @@ pub record IsTraced (words : List ℕ) (log : List Access) : Type 0 where
 
 -- whatever anybody else writes, the words are traced
 abbrev pub AnybodyMayWrite : Type 0
-AnybodyMayWrite = (words : List ℕ) (log : List Access) (w value : ℕ) → IsTraced words log → IsTraced (slice_set words w value) log
+AnybodyMayWrite =
+    (words : List ℕ) (log : List Access) (w value : ℕ) → IsTraced words log → IsTraced (slice_set words w value) log
 
 -- a turn that does not clear a bit of a word
 abbrev pub Leaves : ℕ → ℕ → Turn → Type 0
@@ -54,5 +55,7 @@ Leaves w bit (by_host (FetchOr x mask found)) = Unit {0}
 
 -- a bit that an atomic or set is set in memory until a later turn clears it
 abbrev pub ASignalledFlagStays : Type 0
-ASignalledFlagStays = (later earlier : List Turn) (w mask found bit : ℕ) → IsHistory (later ++ by_host (FetchOr w mask found) ∷ earlier) → bit_at mask bit ≡ 1 → All (Leaves w bit) later
+ASignalledFlagStays =
+    (later earlier : List Turn) (w mask found bit : ℕ) → IsHistory (later ++ by_host (FetchOr w mask found) ∷ earlier)
+    → bit_at mask bit ≡ 1 → All (Leaves w bit) later
     → bit_at (memory (later ++ by_host (FetchOr w mask found) ∷ earlier) w) bit ≡ 1

@@ -68,7 +68,8 @@ impl Model for LivePage {
 
     ghost view = { λ p. p.seat.me.0 };
 
-    ghost invariant = { λ p. (p.table.shared.table_id.words ≡ 512) × (p.seat.table_id ≡ p.table.shared.table_id) × (p.seat.me.1 ≡ []) };
+    ghost invariant = { λ p. (p.table.shared.table_id.words ≡ 512) × (p.seat.table_id ≡ p.table.shared.table_id)
+        × (p.seat.me.1 ≡ []) };
 }
 
 impl LivePage {

@@ -24,7 +24,8 @@ eight-bytes n = low-bytes 8 0 n ∙ ap (little_endian 8) (div-one n)
 
 -- the first word of a header: a type of four bytes, a size and flags of one each, and zeros
 pub first-word : (kind size flags : ℕ) → kind < 4294967296 → size < 256 → flags < 256
-    → little_endian 8 (kind + 4294967296 * size + 1099511627776 * flags) ≡ little_endian 4 kind ++ (size ∷ flags ∷ 0 ∷ 0 ∷ [])
+    → little_endian 8 (kind + 4294967296 * size + 1099511627776 * flags)
+    ≡ little_endian 4 kind ++ (size ∷ flags ∷ 0 ∷ 0 ∷ [])
 first-word kind size flags a b c =
     let word = kind + 4294967296 * size + 1099511627776 * flags in
     let over_1 : word / 256 ≡ kind / 256 + 16777216 * size + 4294967296 * flags = omega arith in
@@ -45,7 +46,9 @@ first-word kind size flags a b c =
 
 -- a header and a payload, written over zeros
 pub assembled-is : (h p zeros : List ℕ) → zeros ≡ replicate 240 0 → length h ≡ 16 → length p ≤ 240 →
-    take 16 (h ++ zeros) ++ (p ++ drop (16 + length p - 16) (drop 16 (h ++ zeros))) ≡ h ++ p ++ replicate (240 - length p) 0
+    take 16 (h ++ zeros) ++ (p ++ drop (16 + length p - 16) (drop 16 (h ++ zeros)))
+    ≡ h ++ p ++ replicate (240 - length p) 0
 assembled-is h p zeros z a b =
     let n : 16 + length p - 16 ≡ length p = omega arith in
-    rw (take_at h zeros 16 a, drop_at h zeros 16 a, n, z, drop-replicate {X = ℕ} (length p) 240 0) (sym (append_assoc h p (replicate (240 - length p) 0)))
+    rw (take_at h zeros 16 a, drop_at h zeros 16 a, n, z, drop-replicate {X = ℕ} (length p) 240 0)
+    (sym (append_assoc h p (replicate (240 - length p) 0)))

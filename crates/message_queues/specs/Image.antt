@@ -1,4 +1,5 @@
--- The 256 bytes of a message in its slot (TLFS, "SynIC Message"; the order of bytes 4 to 7 is a choice of this profile).
+-- The 256 bytes of a message in its slot (TLFS, "SynIC Message"; the order of bytes 4 to 7 is a choice of this
+-- profile).
 use Rattle.std.specs.Prelude.{ℕ, zero, suc, ◌+◌, ◌-◌, ◌*◌, ◌/◌, ◌%◌, ◌≤◌, Bool, List, [], ◌∷◌, ◌++◌, length, replicate, slice_index_or, if◌then◌else◌}
 use Rattle.board_terms.specs.declared.messages.Message.{Message}
 use Rattle.board_terms.specs.declared.messages.Message.TheVariants.{FromPort, FromTimer}
@@ -22,12 +23,15 @@ timer_kind = 0x80000010
 
 -- the payload of a timer's message: the index, four zeros, the expiration time and the delivery time
 abbrev pub timer_payload : ℕ → ℕ → ℕ → List ℕ
-timer_payload index expiration delivery = little_endian 4 index ++ little_endian 4 0 ++ little_endian 8 expiration ++ little_endian 8 delivery
+timer_payload index expiration delivery =
+    little_endian 4 index ++ little_endian 4 0 ++ little_endian 8 expiration ++ little_endian 8 delivery
 
 -- the image of a message that is placed at a given time
 unfoldable pub image : Message → Bool → ℕ → List ℕ
-image (FromPort ticket port kind payload) pending moment = header kind (length payload.items) pending port ++ payload.items ++ replicate (240 - length payload.items) 0
-image (FromTimer ticket timer expiration) pending moment = header timer_kind 24 pending 0 ++ timer_payload timer.1 expiration moment ++ replicate 216 0
+image (FromPort ticket port kind payload) pending moment =
+    header kind (length payload.items) pending port ++ payload.items ++ replicate (240 - length payload.items) 0
+image (FromTimer ticket timer expiration) pending moment =
+    header timer_kind 24 pending 0 ++ timer_payload timer.1 expiration moment ++ replicate 216 0
 
 -- the type of a message
 abbrev pub type_of : Message → ℕ

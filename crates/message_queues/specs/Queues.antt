@@ -22,7 +22,8 @@ processors_of qs = length qs / 16
 abbrev pub most_ports : ℕ → ℕ
 most_ports n = port_count n true
 
--- the greatest number of messages in all queues together: 16 of each port, and one of each timer, of which there are four for each processor
+-- the greatest number of messages in all queues together: 16 of each port, and one of each timer, of which there are
+-- four for each processor
 abbrev pub most_messages : Queues → ℕ
 most_messages qs = 16 * most_ports (processors_of qs) + 4 * processors_of qs
 
@@ -52,7 +53,8 @@ timer_used qs timer = sum_by (count_by (is_from_timer timer)) qs
 abbrev pub is_timer_free : Queues → ℕ × ℕ → Bool
 is_timer_free qs timer = timer_used qs timer == 0
 
--- there is a free buffer for the message: each of the ports has 16 of them, and a timer of a processor that has queues has one
+-- there is a free buffer for the message: each of the ports has 16 of them, and a timer of a processor that has
+-- queues has one
 abbrev pub HasBuffer : Queues → Message → Type 0
 HasBuffer qs (FromPort ticket port kind payload) = (port < most_ports (processors_of qs)) × (port_used qs port < 16)
 HasBuffer qs (FromTimer ticket timer expiration) = (timer.0 < processors_of qs) × (is_timer_free qs timer ≡ true)

@@ -160,11 +160,14 @@ pub(crate) fn withdraw(
     chain: &mut Chain,
     port: u8,
 ) -> ArrayVec<Ticket, 16>
-    requires linked { (owner : ℕ → ℕ) × (rank : ℕ → ℕ) × (queue : ℕ) × IsChain (buffer_at neighbours.old messages.now) owner rank queue chain.old }
+    requires linked { (owner : ℕ → ℕ) × (rank : ℕ → ℕ) × (queue : ℕ)
+        × IsChain (buffer_at neighbours.old messages.now) owner rank queue chain.old }
     requires bound { length (withdrawn_of port (queue_at (buffer_at neighbours.old messages.now) chain.old)) ≤ 16 }
     requires size { length messages.now ≡ neighbours.old.capacity }
-    ensures withdrawn { (owner rank : ℕ → ℕ) (queue : ℕ) → IsChain (buffer_at neighbours.old messages.now) owner rank queue chain.old
-        → Withdrawn (buffer_at neighbours.old messages.now) (buffer_at neighbours.new messages.now) owner rank queue chain.old chain.new port result.items }
+    ensures withdrawn { (owner rank : ℕ → ℕ) (queue : ℕ)
+        → IsChain (buffer_at neighbours.old messages.now) owner rank queue chain.old
+        → Withdrawn (buffer_at neighbours.old messages.now)
+        (buffer_at neighbours.new messages.now) owner rank queue chain.old chain.new port result.items }
     ensures len { slab_len neighbours.new + length result.items ≡ slab_len neighbours.old }
     ensures capacity { neighbours.new.capacity ≡ neighbours.old.capacity }
 {
@@ -189,7 +192,8 @@ pub(crate) fn message_at<'a>(
     chain: &Chain,
     index: u16,
 ) -> &'a Message
-    requires linked { (owner : ℕ → ℕ) × (rank : ℕ → ℕ) × (queue : ℕ) × IsChain (buffer_at neighbours.now messages.now) owner rank queue chain.now }
+    requires linked { (owner : ℕ → ℕ) × (rank : ℕ → ℕ) × (queue : ℕ)
+        × IsChain (buffer_at neighbours.now messages.now) owner rank queue chain.now }
     requires inside { index < chain.now.len }
     requires size { length messages.now ≡ neighbours.now.capacity }
     ensures { slice_get (queue_at (buffer_at neighbours.now messages.now) chain.now) index ≡ Some result.now }

@@ -123,7 +123,8 @@ impl Queues {
         requires on_the_board { source_number vp sint < length self.old }
         requires fits { length payload.now ≤ 240 }
         requires buffer { HasBuffer self.old (FromPort ticket port kind (record { items = payload.now })) }
-        ensures queued { self.new ≡ appended self.old vp sint (FromPort ticket port kind (record { items = payload.now })) }
+        ensures queued { self.new
+            ≡ appended self.old vp sint (FromPort ticket port kind (record { items = payload.now })) }
         ensures as_many { length self.new ≡ length self.old }
     {
         self.in_use[port as usize] += 1;

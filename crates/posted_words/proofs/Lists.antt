@@ -15,11 +15,18 @@ module _ {A : Type 0} where
   pub All-found : (P : A → Type 0) (xs : List A) (i : ℕ) (a : A) → get_elem? xs i ≡ some a → All P xs → P a
   All-found P xs i a e all = let f = get_found xs i a a e in subst P f.1 (All-get_or P xs i a f.0 all)
 
-  pub sum_by-set_found : (f : A → ℕ) (xs : List A) (i : ℕ) (a b : A) → get_elem? xs i ≡ some a → sum_by f (set xs i b) + f a ≡ sum_by f xs + f b
-  sum_by-set_found f xs i a b e = let r = get_found xs i a a e in let s = sum_by-set f xs i b a r.0 in let here : f (get_or xs i a) ≡ f a = ap f r.1 in omega arith
+  pub sum_by-set_found : (f : A → ℕ) (xs : List A) (i : ℕ) (a b : A) → get_elem? xs i ≡ some a
+      → sum_by f (set xs i b) + f a ≡ sum_by f xs + f b
+  sum_by-set_found f xs i a b e =
+      let r =
+      get_found xs i a a e in let s =
+      sum_by-set f xs i b a r.0 in let here : f (get_or xs i a) ≡ f a = ap f r.1 in omega arith
 
   pub found-le-sum_by : (f : A → ℕ) (xs : List A) (i : ℕ) (a : A) → get_elem? xs i ≡ some a → f a ≤ sum_by f xs
-  found-le-sum_by f xs i a e = let r = get_found xs i a a e in let l = get_or-le-sum_by f xs i a r.0 in let here : f (get_or xs i a) ≡ f a = ap f r.1 in omega arith
+  found-le-sum_by f xs i a e =
+      let r =
+      get_found xs i a a e in let l =
+      get_or-le-sum_by f xs i a r.0 in let here : f (get_or xs i a) ≡ f a = ap f r.1 in omega arith
 
   -- f is 0 where g is
   abbrev pub Follows : (g f : A → ℕ) → A → Type 0
@@ -35,7 +42,8 @@ module _ {A : Type 0} where
       omega arith
 
   -- if one element has all of g, it has all of f
-  pub sum_by-alone : (g f : A → ℕ) (xs : List A) (i : ℕ) (a : A) → get_elem? xs i ≡ some a → sum_by g xs ≡ g a → All (Follows g f) xs → sum_by f xs ≡ f a
+  pub sum_by-alone : (g f : A → ℕ) (xs : List A) (i : ℕ) (a : A) → get_elem? xs i ≡ some a → sum_by g xs ≡ g a
+      → All (Follows g f) xs → sum_by f xs ≡ f a
   sum_by-alone g f [] i a e is all = absurd (some-ne-none a (sym e))
   sum_by-alone g f (x ∷ xs) zero a e is all =
       let G = sum_by-cons g x xs in

@@ -17,8 +17,10 @@ all_taken logs w b = sum_by (times_taken w b) logs
 -- After each raise of a bit the bit is set, so it was Fresh once more than the token had taken it before.
 -- After each sweep of a word the word is 0, so each Fresh raise that the token had made there before was taken.
 pub record Bounded (F T : ℕ → ℕ → ℕ) (log : List Action) : Type 0 where
-  pub raises : (w b : ℕ) (later before : List Action) (is_fresh : Bool) → log ≡ later ++ Raise w b is_fresh ∷ before → times_taken w b before + 1 ≤ F w b
-  pub sweeps : (w b bits : ℕ) (later before : List Action) → log ≡ later ++ Sweep w bits ∷ before → fresh w b before ≤ T w b
+  pub raises : (w b : ℕ) (later before : List Action) (is_fresh : Bool) → log ≡ later ++ Raise w b is_fresh ∷ before
+      → times_taken w b before + 1 ≤ F w b
+  pub sweeps : (w b bits : ℕ) (later before : List Action) → log ≡ later ++ Sweep w bits ∷ before
+      → fresh w b before ≤ T w b
 
 -- the logs of all tokens of n words, and the words
 pub record Settled (n : ℕ) (logs : List (List Action)) (words : List ℕ) : Type 0 where

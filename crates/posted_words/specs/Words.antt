@@ -12,7 +12,8 @@ pub record Words : Type 0 where
   pub lines : ℕ
 
 abbrev pub shared_words : TableId → ℕ → ℕ → ℕ → Words
-shared_words name processors sweepers lines = record { name = name; processors = processors; sweepers = sweepers; lines = lines }
+shared_words name processors sweepers lines =
+    record { name = name; processors = processors; sweepers = sweepers; lines = lines }
 
 -- the valid sizes of words: of those for the threads of a large machine, and of any others
 pub record AreManyWordSizes (processors sweepers lines : ℕ) : Type 0 where

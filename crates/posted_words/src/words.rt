@@ -54,7 +54,8 @@ impl Model for PostedWords {
     ghost view = { λ p. shared_words p.table.shared.table_id p.processors p.sweepers p.lines };
 
     ghost invariant = { λ p. (p.table.shared.key ≡ (4 * p.processors, p.sweepers + p.lines))
-        × (p.table.shared.table_id.words ≡ 4 * p.processors) × (p.table.shared.table_id.slots ≡ 0) × AreManyWordSizes p.processors p.sweepers p.lines };
+        × (p.table.shared.table_id.words ≡ 4 * p.processors) × (p.table.shared.table_id.slots ≡ 0)
+        × AreManyWordSizes p.processors p.sweepers p.lines };
 }
 
 type Places = Shared<(), View, (u64, u64), Counted>;
@@ -98,7 +99,8 @@ fn join_all(places: &Places, seat: &mut Seat<(), View>, mut tokens: Vec<Line>)
     requires no_slot { seat.old.me.1 ≡ [] }
     requires tokens { All (IsOf places.now.table_id) tokens.items }
     ensures own { seat.new.table_id ≡ seat.old.table_id }
-    ensures joined { seat.new.me ≡ (view_of (seat.old.me.0.parts + vec_len tokens) (map actions_of tokens.items ++ seat.old.me.0.logs), []) }
+    ensures joined { seat.new.me
+        ≡ (view_of (seat.old.me.0.parts + vec_len tokens) (map actions_of tokens.items ++ seat.old.me.0.logs), []) }
 {
     while let Some(token) = tokens.pop() {
         places.join_seat::<Gathers>(seat, token.into_seat());
@@ -251,7 +253,9 @@ impl PostedWords {
     /// nothing, and returns 0. Requires a sweeper of these words.
     pub fn sweep_if_there(&self, sweeper: &mut Sweeper, vp: u8, part: u8) -> u64
         requires { sweeper.old.of ≡ self.now.name }
-        ensures swept { sweeper.new ≡ token sweeper.old.of (if nat_lt vp self.now.processors && nat_le part 3 then sweep_of vp part result ∷ sweeper.old.actions else sweeper.old.actions) }
+        ensures swept { sweeper.new
+            ≡ token sweeper.old.of (if nat_lt vp self.now.processors && nat_le part 3
+            then sweep_of vp part result ∷ sweeper.old.actions else sweeper.old.actions) }
         ensures none { (nat_lt vp self.now.processors && nat_le part 3) ≡ false → result ≡ 0 }
     {
         match Vp::new(vp) {
@@ -271,9 +275,11 @@ impl PostedWords {
     ) -> Result<Standing, GatherFault>
         requires sweepers { All (IsOf self.name) sweepers.items }
         requires lines { All (IsOf self.name) lines.items }
-        ensures missing { IsErrOf result GatherFault.Missing ↔ (vec_len sweepers < self.sweepers) ⊎ (vec_len lines < self.lines) }
+        ensures missing { IsErrOf result GatherFault.Missing ↔ (vec_len sweepers < self.sweepers)
+            ⊎ (vec_len lines < self.lines) }
         ensures width { IfOk result (λ s. length s ≡ 4 * self.processors) }
-        ensures settled { IfOk result (λ s. Settled (4 * self.processors) (map actions_of (sweepers.items ++ lines.items)) s) }
+        ensures settled { IfOk result
+            (λ s. Settled (4 * self.processors) (map actions_of (sweepers.items ++ lines.items)) s) }
     {
         if sweepers.len() < usize::from(self.sweepers) || lines.len() < usize::from(self.lines) {
             return Err(GatherFault::Missing);

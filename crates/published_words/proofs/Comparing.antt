@@ -17,7 +17,8 @@ use Rattle.published_words.specs.inside.Rule.{place_of, IsRight, Knows, IsRuled,
 use Rattle.published_words.proofs.Steps.{same-word, equal}
 
 -- a watcher is copied: what it knows, two seats may know
-copied : (start : State) (id i : ℕ) (t : Snapshot BoardModel) (seen floor : List Entry) → Splits (IsRuled start) id (Reads t i seen floor) (Reads t i seen floor) (Reads t i seen floor)
+copied : (start : State) (id i : ℕ) (t : Snapshot BoardModel) (seen floor : List Entry)
+    → Splits (IsRuled start) id (Reads t i seen floor) (Reads t i seen floor) (Reads t i seen floor)
 copied start id i t seen floor s h at =
     let v : View = Reads t i seen floor in
     let know = h.known id v at in
@@ -28,7 +29,8 @@ copied start id i t seen floor s h at =
       count = h.count;
       right = h.right;
       known = λ k w e.
-          ⊎_elim (λ (z : get_elem? (set s.views id v) k ≡ some w). h.known k w (ap (λ l. get_elem? l k) (sym (set_again s.views id v at)) ∙ z))
+          ⊎_elim (λ (z : get_elem? (set s.views id v) k ≡ some w). h.known k w
+          (ap (λ l. get_elem? l k) (sym (set_again s.views id v at)) ∙ z))
           (λ (z : v ≡ w). subst (Knows start h.logs h.writer k) z (know.0, know.1, know.2))
           (at_snoc (set s.views id v) v w k e);
     }
@@ -46,7 +48,8 @@ taken : (start : State) (id other i : ℕ) (t u : Snapshot BoardModel) (seen flo
 taken start id other i t u seen floor own s h at apart there =
     let both : View = Compares u own i seen floor in
     let know = h.known id (Writes u own) at in
-    let was : get_elem? s.views other ≡ some (Reads t i seen floor) = ⊎_elim (λ z. absurd (apart z.0)) (λ z. z.1) (at_set s.views id other both (Reads t i seen floor) there) in
+    let was : get_elem? s.views other ≡ some (Reads t i seen floor) =
+    ⊎_elim (λ z. absurd (apart z.0)) (λ z. z.1) (at_set s.views id other both (Reads t i seen floor) there) in
     let read = h.known other (Reads t i seen floor) was in
     record {
       logs = h.logs;
@@ -57,13 +60,15 @@ taken start id other i t u seen floor own s h at apart there =
       known = λ k v e.
           ⊎_elim (λ (z : (k ≡ other) × (Spent ≡ v)). subst (Knows start h.logs h.writer k) z.1 tt)
           (λ (z : (k ≢ other) × (get_elem? (set s.views id both) k ≡ some v)).
-          ⊎_elim (λ (y : (k ≡ id) × (both ≡ v)). subst (Knows start h.logs h.writer k) y.1 (know.0, y.0 ∙ know.1, know.2, read.1, read.2))
+          ⊎_elim (λ (y : (k ≡ id) × (both ≡ v)). subst (Knows start h.logs h.writer k) y.1
+          (know.0, y.0 ∙ know.1, know.2, read.1, read.2))
           (λ (y : (k ≢ id) × (get_elem? s.views k ≡ some v)). h.known k v y.1)
           (at_set s.views id k both v z.1))
           (at_set (set s.views id both) other k Spent v e);
     }
 
-pub meets : (start : State) (id other word : ℕ) (v w : View) → is_writer v ≡ true → is_reader word w ≡ true → Joins (IsRuled start) id v other w (met v w) Spent
+pub meets : (start : State) (id other word : ℕ) (v w : View) → is_writer v ≡ true → is_reader word w ≡ true
+    → Joins (IsRuled start) id v other w (met v w) Spent
 meets start id other word (Writes u own) (Reads t i seen floor) is read = taken start id other i t u seen floor own
 meets start id other word (Writes u own) (Writes t more) is read = absurd (cc read)
 meets start id other word (Writes u own) (Marks t more) is read = absurd (cc read)
@@ -76,7 +81,8 @@ meets start id other word Spent w is read = absurd (cc is)
 
 -- and compares
 found : (start : State) (slots id i : ℕ) (t : Snapshot BoardModel) (own : Logs) (seen floor : List Entry)
-    → Allows (IsRuled start) slots id (Compares t own i seen floor, []) 0 (λ n. n) (compared_as (step slots 0 0 0 none) (Compares t own i seen floor, []))
+    → Allows (IsRuled start) slots id (Compares t own i seen floor, []) 0 (λ n. n)
+    (compared_as (step slots 0 0 0 none) (Compares t own i seen floor, []))
 found start slots id i t own seen floor s h _ at _ =
     let w : View = Writes t own in
     let n : ℕ = slice_index s.words 0 in
@@ -90,20 +96,30 @@ found start slots id i t own seen floor s h _ at _ =
         writer = h.writer;
         width = length-set s.words 0 n ∙ h.width;
         count = h.count;
-        right = λ k lt. subst (IsRight start k (log_at h.logs k)) (sym (same-word s.words 0 (place_of k) wide)) (h.right k lt);
+        right = λ k lt. subst (IsRight start k (log_at h.logs k)) (sym (same-word s.words 0 (place_of k) wide))
+            (h.right k lt);
         known = λ k v e.
             ⊎_elim
             (λ (z : (k ≡ id) × (w ≡ v)). subst (Knows start h.logs h.writer k) z.1 (know.0, z.0 ∙ know.1, know.2))
             (λ (z : (k ≢ id) × (get_elem? s.views k ≡ some v)). h.known k v z.1)
             (at_set s.views id k w v e);
       },
-      ((refl, subst (λ l. IsPrefix seen (log_at l i)) (sym know.2) know.3, subst (λ l. IsPrefix floor (log_at l i)) (sym know.2) know.4), refl),
+      (
+        (
+          refl,
+          subst (λ l. IsPrefix seen (log_at l i)) (sym know.2) know.3,
+          subst (λ l. IsPrefix floor (log_at l i)) (sym know.2) know.4,
+        ),
+        refl,
+      ),
     )
 
-pub finds : (start : State) (slots id word : ℕ) (v w : View) (me : Me History View) → is_writer v ≡ true → is_reader word w ≡ true → me ≡ (met v w, [])
+pub finds : (start : State) (slots id word : ℕ) (v w : View) (me : Me History View) → is_writer v ≡ true
+    → is_reader word w ≡ true → me ≡ (met v w, [])
     → Allows (IsRuled start) slots id me 0 (λ n. n) (compared_as (step slots 0 0 0 none) me)
 finds start slots id word (Writes u own) (Reads t i seen floor) me is read is_me =
-    subst (λ z. Allows (IsRuled start) slots id z 0 (λ n. n) (compared_as (step slots 0 0 0 none) z)) (sym is_me) (found start slots id i u own seen floor)
+    subst (λ z. Allows (IsRuled start) slots id z 0 (λ n. n) (compared_as (step slots 0 0 0 none) z)) (sym is_me)
+    (found start slots id i u own seen floor)
 finds start slots id word (Writes u own) (Writes t more) me is read is_me = absurd (cc read)
 finds start slots id word (Writes u own) (Marks t more) me is read is_me = absurd (cc read)
 finds start slots id word (Writes u own) (Compares t more i s f) me is read is_me = absurd (cc read)
@@ -119,7 +135,8 @@ pub record IsCompared (word : ℕ) (before seat after : View) : Type 0 where
   pub seen : IsPrefix (seen_of seat) (log_at (logs_of before) word)
   pub floor : IsPrefix (floor_of seat) (log_at (logs_of before) word)
 
-pub compared : (word : ℕ) (v w after : View) → is_writer v ≡ true → is_reader word w ≡ true → Compared (met v w) after → IsCompared word v w after
+pub compared : (word : ℕ) (v w after : View) → is_writer v ≡ true → is_reader word w ≡ true → Compared (met v w) after
+    → IsCompared word v w after
 compared word (Writes u own) (Reads t i seen floor) after is read did =
     let here : i ≡ word = equal i word read in
     record {

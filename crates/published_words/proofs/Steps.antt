@@ -30,7 +30,8 @@ none-at (suc n) zero = refl
 none-at (suc n) (suc i) = none-at n i
 
 -- the rule holds of new words
-pub opens : (key : Snapshot BoardModel) (values words : List ℕ) → AreOpening key.value.state values → AreSpread values words
+pub opens : (key : Snapshot BoardModel) (values words : List ℕ) → AreOpening key.value.state values
+    → AreSpread values words
     → IsRuled key.value.state (opening words [] (Writes key (no_logs key.value.state)))
 opens key values words new placed =
     let start = key.value.state in
@@ -52,15 +53,20 @@ opens key values words new placed =
       known = λ id v at. only id v at;
     }
   where
-    only : (id : ℕ) (v : View) → get_elem? (Writes key (no_logs key.value.state) ∷ []) id ≡ some v → Knows key.value.state (no_logs key.value.state) 0 id v
-    only zero v at = subst (Knows key.value.state (no_logs key.value.state) 0 0) (some-injective (Writes key (no_logs key.value.state)) v at) (refl, refl, refl)
+    only : (id : ℕ) (v : View) → get_elem? (Writes key (no_logs key.value.state) ∷ []) id ≡ some v
+        → Knows key.value.state (no_logs key.value.state) 0 id v
+    only zero v at =
+        subst (Knows key.value.state (no_logs key.value.state) 0 0)
+        (some-injective (Writes key (no_logs key.value.state)) v at) (refl, refl, refl)
     only (suc id) v at = absurd (some-ne-none v (sym at))
 
 -- setting a word to itself changes no word
-pub same-word : (words : List ℕ) (p x : ℕ) → p < length words → slice_index (set words p (slice_index words p)) x ≡ slice_index words x
+pub same-word : (words : List ℕ) (p x : ℕ) → p < length words
+    → slice_index (set words p (slice_index words p)) x ≡ slice_index words x
 same-word words p x wide =
     dite (ℕ_discrete x p)
-    (λ e. ap (slice_index (set words p (slice_index words p))) e ∙ get_or-set_same words p (slice_index words p) 0 wide ∙ ap (slice_index words) (sym e))
+    (λ e. ap (slice_index (set words p (slice_index words p))) e
+    ∙ get_or-set_same words p (slice_index words p) 0 wide ∙ ap (slice_index words) (sym e))
     (λ e. get_or-set_other words p x (slice_index words p) 0 e)
 
 pub inside : (n i p : ℕ) → p ≡ 8 * n → i < n → place_of i < p
@@ -70,8 +76,10 @@ pub equal : (a b : ℕ) → (a == b) ≡ true → a ≡ b
 equal a b e = grind (arith, nat_tests)
 
 -- a load by a watcher
-reads : (start : State) (slots id i j : ℕ) (t : Snapshot BoardModel) (seen floor : List Entry) → j ≡ i → i < word_count start
-    → Allows (IsRuled start) slots id (Reads t j seen floor, []) (place_of i) (λ n. n) (loaded_as (step slots (place_of i) 0 0 none) (Reads t j seen floor, []))
+reads : (start : State) (slots id i j : ℕ) (t : Snapshot BoardModel) (seen floor : List Entry) → j ≡ i
+    → i < word_count start
+    → Allows (IsRuled start) slots id (Reads t j seen floor, []) (place_of i) (λ n. n)
+    (loaded_as (step slots (place_of i) 0 0 none) (Reads t j seen floor, []))
 reads start slots id i j t seen floor same there s h _ at _ =
     let log : List Entry = log_at h.logs j in
     let w : View = Reads t j log floor in
@@ -79,7 +87,9 @@ reads start slots id i j t seen floor same there s h _ at _ =
     let found : ℕ = slice_index s.words p in
     let know = h.known id (Reads t j seen floor) at in
     let wide : p < length s.words = inside (word_count start) i (length s.words) h.width there in
-    let right : IsRight t.value.state j log found = subst (λ (z : State × ℕ). IsRight z.0 z.1 (log_at h.logs z.1) found) (λ k. (sym know.0 k, sym same k)) (h.right i there) in (
+    let right : IsRight t.value.state j log found =
+    subst (λ (z : State × ℕ). IsRight z.0 z.1 (log_at h.logs z.1) found) (λ k. (sym know.0 k, sym same k))
+    (h.right i there) in (
       w,
       keeps,
       tt,
@@ -88,7 +98,8 @@ reads start slots id i j t seen floor same there s h _ at _ =
         writer = h.writer;
         width = length-set s.words p found ∙ h.width;
         count = h.count;
-        right = λ k lt. subst (IsRight start k (log_at h.logs k)) (sym (same-word s.words p (place_of k) wide)) (h.right k lt);
+        right = λ k lt. subst (IsRight start k (log_at h.logs k)) (sym (same-word s.words p (place_of k) wide))
+            (h.right k lt);
         known = λ k v e.
             ⊎_elim
             (λ (z : (k ≡ id) × (w ≡ v)). subst (Knows start h.logs h.writer k) z.1 (know.0, prefix_refl log, know.2))
@@ -98,10 +109,12 @@ reads start slots id i j t seen floor same there s h _ at _ =
       ((log, refl, know.1, know.2, right), refl),
     )
 
-pub loads : (start : State) (slots id word i : ℕ) (me : Me History View) → is_reader word me.0 ≡ true → me.1 ≡ [] → i ≡ word → i < word_count start
+pub loads : (start : State) (slots id word i : ℕ) (me : Me History View) → is_reader word me.0 ≡ true → me.1 ≡ []
+    → i ≡ word → i < word_count start
     → Allows (IsRuled start) slots id me (place_of i) (λ n. n) (loaded_as (step slots (place_of i) 0 0 none) me)
 loads start slots id word i (Reads t j seen floor, c) is bare same there =
-    subst (λ z. Allows (IsRuled start) slots id (Reads t j seen floor, z) (place_of i) (λ n. n) (loaded_as (step slots (place_of i) 0 0 none) (Reads t j seen floor, z))) (sym bare)
+    subst (λ z. Allows (IsRuled start) slots id (Reads t j seen floor, z) (place_of i) (λ n. n)
+    (loaded_as (step slots (place_of i) 0 0 none) (Reads t j seen floor, z))) (sym bare)
     (reads start slots id i j t seen floor (equal j word is ∙ sym same) there)
 loads start slots id word i (Writes t own, c) is bare same there = absurd (cc is)
 loads start slots id word i (Marks t own, c) is bare same there = absurd (cc is)
@@ -110,7 +123,8 @@ loads start slots id word i (Spent, c) is bare same there = absurd (cc is)
 
 -- the load that makes a watcher
 pub begins : (key : Snapshot BoardModel) (slots i : ℕ) → i < word_count key.value.state
-    → Enters (IsRuled key.value.state) slots (place_of i) (λ n w. begun_as (step slots (place_of i) 0 0 none) (Writes key (no_logs key.value.state), []) n (w, []))
+    → Enters (IsRuled key.value.state) slots (place_of i)
+    (λ n w. begun_as (step slots (place_of i) 0 0 none) (Writes key (no_logs key.value.state), []) n (w, []))
 begins key slots i there s h _ _ =
     let start = key.value.state in
     let log : List Entry = log_at h.logs i in
@@ -131,7 +145,8 @@ begins key slots i there s h _ _ =
     )
 
 -- a checkpoint of the publisher
-checks : (start : State) (id : ℕ) (t : Snapshot BoardModel) (own : Logs) → Splits (IsRuled start) id (Writes t own) (Writes t own) (Marks t own)
+checks : (start : State) (id : ℕ) (t : Snapshot BoardModel) (own : Logs)
+    → Splits (IsRuled start) id (Writes t own) (Writes t own) (Marks t own)
 checks start id t own s h at =
     let know = h.known id (Writes t own) at in
     record {
@@ -141,8 +156,10 @@ checks start id t own s h at =
       count = h.count;
       right = h.right;
       known = λ k v e.
-          ⊎_elim (λ (z : get_elem? (set s.views id (Writes t own)) k ≡ some v). h.known k v (ap (λ l. get_elem? l k) (sym (set_again s.views id (Writes t own) at)) ∙ z))
-          (λ (z : Marks t own ≡ v). subst (Knows start h.logs h.writer k) z (know.0, (λ i. subst (λ l. IsPrefix (log_at own i) (log_at l i)) know.2 (prefix_refl (log_at own i)))))
+          ⊎_elim (λ (z : get_elem? (set s.views id (Writes t own)) k ≡ some v). h.known k v
+          (ap (λ l. get_elem? l k) (sym (set_again s.views id (Writes t own) at)) ∙ z))
+          (λ (z : Marks t own ≡ v). subst (Knows start h.logs h.writer k) z
+          (know.0, (λ i. subst (λ l. IsPrefix (log_at own i) (log_at l i)) know.2 (prefix_refl (log_at own i)))))
           (at_snoc (set s.views id (Writes t own)) (Marks t own) v k e);
     }
 
@@ -159,7 +176,8 @@ lifts : (start : State) (id other i : ℕ) (t u : Snapshot BoardModel) (seen flo
 lifts start id other i t u seen floor own s h at apart there =
     let both : View = Reads t i seen (log_at own i) in
     let know = h.known id (Reads t i seen floor) at in
-    let was : get_elem? s.views other ≡ some (Marks u own) = ⊎_elim (λ z. absurd (apart z.0)) (λ z. z.1) (at_set s.views id other both (Marks u own) there) in
+    let was : get_elem? s.views other ≡ some (Marks u own) =
+    ⊎_elim (λ z. absurd (apart z.0)) (λ z. z.1) (at_set s.views id other both (Marks u own) there) in
     let mark = h.known other (Marks u own) was in
     record {
       logs = h.logs;
@@ -176,7 +194,8 @@ lifts start id other i t u seen floor own s h at apart there =
           (at_set (set s.views id both) other k Spent v e);
     }
 
-pub raises : (start : State) (id other word : ℕ) (v w : View) → is_reader word v ≡ true → is_mark w ≡ true → Joins (IsRuled start) id v other w (raised v w) Spent
+pub raises : (start : State) (id other word : ℕ) (v w : View) → is_reader word v ≡ true → is_mark w ≡ true
+    → Joins (IsRuled start) id v other w (raised v w) Spent
 raises start id other word (Reads t i seen floor) (Marks u own) is mark = lifts start id other i t u seen floor own
 raises start id other word (Reads t i seen floor) (Writes u own) is mark = absurd (cc mark)
 raises start id other word (Reads t i seen floor) (Reads u j s f) is mark = absurd (cc mark)
@@ -193,5 +212,6 @@ opens-values start values new = record {
   bound = new.bound;
   lengths = new.lengths;
   count = length-replicate (word_count start) [];
-  each = λ i lt. new.each i lt ∙ ap (word_at start i) (leads-none start (log_at (no_logs start) i) (none-at (word_count start) i));
+  each = λ i lt. new.each i lt
+      ∙ ap (word_at start i) (leads-none start (log_at (no_logs start) i) (none-at (word_count start) i));
 }

@@ -21,7 +21,8 @@ pub record IsNew (word : ℕ) (from : State) (after : View) : Type 0 where
   pub start : start_of after ≡ from
   pub floor : floor_of after ≡ []
 
-pub began : (key : Snapshot BoardModel) (own : Logs) (word i : ℕ) (after : View) → i ≡ word → Begins (place_of i) (Writes key own) after → IsNew word key.value.state after
+pub began : (key : Snapshot BoardModel) (own : Logs) (word i : ℕ) (after : View) → i ≡ word
+    → Begins (place_of i) (Writes key own) after → IsNew word key.value.state after
 began key own word i after same told =
     let t = told i refl in
     let here : (i == word) ≡ true = grind (arith, nat_tests) in
@@ -33,36 +34,45 @@ pub record IsWritten (i : ℕ) (h : List Entry) (before after : View) : Type 0 w
   pub start : start_of after ≡ start_of before
   pub logs : logs_of after ≡ set (logs_of before) i h
 
-wrote-as : (i : ℕ) (h : List Entry) (before : View) → is_writer before ≡ true → IsWritten i h before (with_log i h before)
+wrote-as : (i : ℕ) (h : List Entry) (before : View) → is_writer before ≡ true
+    → IsWritten i h before (with_log i h before)
 wrote-as i h (Writes t own) is = record { writer = refl; start = refl; logs = refl }
 wrote-as i h (Marks t own) is = absurd (cc is)
 wrote-as i h (Reads t j seen floor) is = absurd (cc is)
 wrote-as i h (Compares t own j seen floor) is = absurd (cc is)
 wrote-as i h Spent is = absurd (cc is)
 
-pub wrote : (i : ℕ) (h : List Entry) (before after : View) → is_writer before ≡ true → after ≡ with_log i h before → IsWritten i h before after
+pub wrote : (i : ℕ) (h : List Entry) (before after : View) → is_writer before ≡ true → after ≡ with_log i h before
+    → IsWritten i h before after
 wrote i h before after is e = subst (IsWritten i h before) (sym e) (wrote-as i h before is)
 
 -- the publisher's values after a store
-pub values-stored : (start : State) (logs : Logs) (values : List ℕ) (i value : ℕ) (h : List Entry) → HasValues start logs values → i < word_count start → IsRight start i h value
+pub values-stored : (start : State) (logs : Logs) (values : List ℕ) (i value : ℕ) (h : List Entry)
+    → HasValues start logs values → i < word_count start → IsRight start i h value
     → HasValues start (set logs i h) (set values i value)
 values-stored start logs values i value h has there right = record {
   bound = has.bound;
   lengths = length-set values i value ∙ has.lengths;
   count = length-set logs i h ∙ has.count;
   each = λ k lt. dite (ℕ_discrete k i)
-      (λ e. ap (slice_index (set values i value)) e ∙ get_or-set_same values i value 0 (subst (λ n. i < n) (sym has.lengths) there) ∙ right.is
-      ∙ ap (λ l. word_at start i (leads_to start l)) (sym (log-here logs i h (subst (λ n. i < n) (sym has.count) there)))
+      (λ e. ap (slice_index (set values i value)) e
+      ∙ get_or-set_same values i value 0 (subst (λ n. i < n) (sym has.lengths) there) ∙ right.is
+      ∙ ap (λ l. word_at start i (leads_to start l))
+      (sym (log-here logs i h (subst (λ n. i < n) (sym has.count) there)))
       ∙ ap (λ m. word_at start m (leads_to start (log_at (set logs i h) m))) (sym e))
-      (λ e. get_or-set_other values i k value 0 e ∙ has.each k lt ∙ ap (λ l. word_at start k (leads_to start l)) (sym (log-else logs i k h e)));
+      (λ e. get_or-set_other values i k value 0 e ∙ has.each k lt
+      ∙ ap (λ l. word_at start k (leads_to start l)) (sym (log-else logs i k h e)));
 }
 
 -- one word was stored
-pub stored-at : (start : State) (i old value : ℕ) (h : List Entry) (logs : Logs) → i < length logs → old ≡ word_at start i (leads_to start (log_at logs i)) → value ≡ word_at start i (leads_to start h)
+pub stored-at : (start : State) (i old value : ℕ) (h : List Entry) (logs : Logs) → i < length logs
+    → old ≡ word_at start i (leads_to start (log_at logs i)) → value ≡ word_at start i (leads_to start h)
     → old ≢ value → IsStoredAt start i h logs (set logs i h)
 stored-at start i old value h logs there was is differs =
-    let apart : word_at start i (leads_to start (log_at logs i)) ≢ word_at start i (leads_to start h) = λ e. differs (was ∙ e ∙ sym is) in
-    let test : (word_at start i (leads_to start (log_at logs i)) == word_at start i (leads_to start h)) ≡ false = grind (arith, nat_tests) in
+    let apart : word_at start i (leads_to start (log_at logs i)) ≢ word_at start i (leads_to start h) =
+    λ e. differs (was ∙ e ∙ sym is) in
+    let test : (word_at start i (leads_to start (log_at logs i)) == word_at start i (leads_to start h)) ≡ false =
+    grind (arith, nat_tests) in
     record {
       lengths = length-set logs i h;
       here = log-here logs i h there ∙ sym (ap (λ (b : Bool). if b then log_at logs i else h) test);

@@ -16,7 +16,8 @@ pub record IsContinued (start now : State) (history : List Entry) (logs : Logs) 
 
 -- the history of a word: the new one if the value changes, and else the one that it has
 abbrev pub after_store : State → List Entry → ℕ → List Entry → List Entry
-after_store start history i log = if word_at start i (leads_to start log) == word_at start i (leads_to start history) then log else history
+after_store start history i log =
+    if word_at start i (leads_to start log) == word_at start i (leads_to start history) then log else history
 
 -- each word whose value changes is stored, and no other
 pub record IsStored (start : State) (history : List Entry) (old new : Logs) : Type 0 where

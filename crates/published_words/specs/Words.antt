@@ -34,7 +34,8 @@ pub record Published : Type 0 where
 abbrev pub published : Words → Logs → Published
 published of logs = record { of = of; logs = logs }
 
--- the words, the word that a watcher loads, the history of the value that it loaded last, and one that its next value includes as well
+-- the words, the word that a watcher loads, the history of the value that it loaded last, and one that its next value
+-- includes as well
 pub record Watching : Type 0 where
   pub of : Words
   pub word : ℕ

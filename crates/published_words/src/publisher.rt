@@ -36,7 +36,8 @@ impl Model for Publisher {
 
     ghost view = { λ p. published (words_of p.seat.table_id (start_of p.seat.me.0)) (logs_of p.seat.me.0) };
 
-    ghost invariant = { λ p. (is_writer p.seat.me.0 ≡ true) × (p.seat.me.1 ≡ []) × HasValues (start_of p.seat.me.0) (logs_of p.seat.me.0) p.values.items };
+    ghost invariant = { λ p. (is_writer p.seat.me.0 ≡ true) × (p.seat.me.1 ≡ [])
+        × HasValues (start_of p.seat.me.0) (logs_of p.seat.me.0) p.values.items };
 }
 
 /// What the words held at some time. A watcher that takes it as its floor reads no earlier value. It

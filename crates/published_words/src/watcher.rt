@@ -23,7 +23,8 @@ impl Model for Watcher {
 
     ghost coded = { watching_code };
 
-    ghost view = { λ w. watching (words_of w.seat.table_id (start_of w.seat.me.0)) w.word (seen_of w.seat.me.0) (floor_of w.seat.me.0) };
+    ghost view = { λ w. watching (words_of w.seat.table_id (start_of w.seat.me.0)) w.word (seen_of w.seat.me.0)
+        (floor_of w.seat.me.0) };
 
     ghost invariant = { λ w. (is_reader w.word w.seat.me.0 ≡ true) × (w.seat.me.1 ≡ []) };
 }

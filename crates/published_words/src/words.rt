@@ -41,7 +41,8 @@ impl Model for PublishedWords {
 
     ghost view = { λ w. words_of w.table.shared.table_id w.table.shared.key.value.state };
 
-    ghost invariant = { λ w. (w.count ≡ processors w.table.shared.key.value.state) × (w.count ≤ 64) × (w.table.shared.table_id.words ≡ 8 * word_count w.table.shared.key.value.state) };
+    ghost invariant = { λ w. (w.count ≡ processors w.table.shared.key.value.state) × (w.count ≤ 64)
+        × (w.table.shared.table_id.words ≡ 8 * word_count w.table.shared.key.value.state) };
 }
 
 /// The word for a next vector.
@@ -187,7 +188,8 @@ impl PublishedWords {
     pub fn catch_up(&self, watcher: &mut Watcher, checkpoint: Checkpoint)
         requires watcher { watcher.old.of ≡ self.now }
         requires checkpoint { checkpoint.of ≡ self.now }
-        ensures { watcher.new ≡ watching watcher.old.of watcher.old.word watcher.old.seen (log_at checkpoint.logs watcher.old.word) }
+        ensures { watcher.new ≡ watching watcher.old.of watcher.old.word watcher.old.seen
+            (log_at checkpoint.logs watcher.old.word) }
     {
         let Checkpoint { seat } = checkpoint;
         self.table

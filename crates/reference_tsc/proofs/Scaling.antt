@@ -16,7 +16,8 @@ never-back page a b le =
     record { later = later; time = λ bound. omega (arith, later, bound) }
 
 -- a scale of which hz times is at most units * 2^64, and less than one hz below; ticks that last `passed` units
-module _ (hz a ticks scale passed : ℕ) (some : 0 < hz) (bound : ticks < whole) (low : scale * hz ≤ units * whole) (high : units * whole < scale * hz + hz)
+module _ (hz a ticks scale passed : ℕ) (some : 0 < hz) (bound : ticks < whole) (low : scale * hz ≤ units * whole)
+    (high : units * whole < scale * hz + hz)
     (passed-low : passed * hz ≤ ticks * units) (passed-high : ticks * units < passed * hz + hz) where
   split : (a + ticks) * scale ≡ a * scale + ticks * scale
   split = grind arith
@@ -40,7 +41,9 @@ module _ (hz a ticks scale passed : ℕ) (some : 0 < hz) (bound : ticks < whole)
   pub few : elapsed scale (a + ticks) ≤ elapsed scale a + passed + 1
   few = by (cases_lt (elapsed scale a + passed + 1) (elapsed scale (a + ticks)))
     where
-      by : (elapsed scale a + passed + 1 < elapsed scale (a + ticks)) ⊎ (elapsed scale (a + ticks) ≤ elapsed scale a + passed + 1) → elapsed scale (a + ticks) ≤ elapsed scale a + passed + 1
+      by : (elapsed scale a + passed + 1 < elapsed scale (a + ticks))
+          ⊎ (elapsed scale (a + ticks) ≤ elapsed scale a + passed + 1)
+          → elapsed scale (a + ticks) ≤ elapsed scale a + passed + 1
       by (inr fits) = fits
       by (inl over) =
           let more : whole * (passed + 1) < ticks * scale = omega (arith, over, split) in
@@ -51,7 +54,9 @@ module _ (hz a ticks scale passed : ℕ) (some : 0 < hz) (bound : ticks < whole)
   pub many : elapsed scale a + passed ≤ elapsed scale (a + ticks) + 1
   many = by (cases_lt (elapsed scale (a + ticks) + 1) (elapsed scale a + passed))
     where
-      by : (elapsed scale (a + ticks) + 1 < elapsed scale a + passed) ⊎ (elapsed scale a + passed ≤ elapsed scale (a + ticks) + 1) → elapsed scale a + passed ≤ elapsed scale (a + ticks) + 1
+      by : (elapsed scale (a + ticks) + 1 < elapsed scale a + passed)
+          ⊎ (elapsed scale a + passed ≤ elapsed scale (a + ticks) + 1)
+          → elapsed scale a + passed ≤ elapsed scale (a + ticks) + 1
       by (inr fits) = fits
       by (inl under) =
           let less : ticks * scale + whole ≤ whole * passed = omega (arith, under, split) in
@@ -71,7 +76,9 @@ within hz a b some le bound =
     let passed-high = lt-div-mul-add {a = (b - a) * units} {b = hz} pos in
     record {
       few = subst (λ n. elapsed (scale_of hz) n ≤ elapsed (scale_of hz) a + (b - a) * units / hz + 1) sum
-          (few hz a (b - a) (scale_of hz) ((b - a) * units / hz) pos (omega (arith, bound)) low high passed-low passed-high);
+          (few hz a (b - a) (scale_of hz) ((b - a) * units / hz) pos
+          (omega (arith, bound)) low high passed-low passed-high);
       many = subst (λ n. elapsed (scale_of hz) a + (b - a) * units / hz ≤ elapsed (scale_of hz) n + 1) sum
-          (many hz a (b - a) (scale_of hz) ((b - a) * units / hz) pos (omega (arith, bound)) low high passed-low passed-high);
+          (many hz a (b - a) (scale_of hz) ((b - a) * units / hz) pos
+          (omega (arith, bound)) low high passed-low passed-high);
     }

@@ -22,16 +22,20 @@ by_test : (n : ℕ) (e : Entry) (b : Bool) → is_by n e ≡ b → filter (is_by
 by_test n e b is = ap (λ (c : Bool). cond c (e ∷ []) []) is
 
 own-push : (n : ℕ) (h : List Entry) (e : Entry) → e.actor ≡ n → entries_by n (h ++ e ∷ []) ≡ entries_by n h ++ e ∷ []
-own-push n h e is = filter-append (is_by n) h (e ∷ []) ∙ ap (λ l. entries_by n h ++ l) (by_test n e true (grind (arith, nat_tests)))
+own-push n h e is =
+    filter-append (is_by n) h (e ∷ []) ∙ ap (λ l. entries_by n h ++ l) (by_test n e true (grind (arith, nat_tests)))
 
 other-push : (n : ℕ) (h : List Entry) (e : Entry) → is_by n e ≡ false → entries_by n (h ++ e ∷ []) ≡ entries_by n h
-other-push n h e is = filter-append (is_by n) h (e ∷ []) ∙ ap (λ l. entries_by n h ++ l) (by_test n e false is) ∙ append-nil (entries_by n h)
+other-push n h e is =
+    filter-append (is_by n) h (e ∷ []) ∙ ap (λ l. entries_by n h ++ l) (by_test n e false is)
+    ∙ append-nil (entries_by n h)
 
 -- the rows of n actors from a on
 abbrev rows_from : ℕ → ℕ → List Entry → List Row
 rows_from a n h = map (λ k. row k (entries_by k h)) (range_with_len a n)
 
-row-at : (a n k : ℕ) (h : List Entry) (x : Row) → get_elem? (rows_from a n h) k ≡ some x → (k < n) × (x ≡ row (a + k) (entries_by (a + k) h))
+row-at : (a n k : ℕ) (h : List Entry) (x : Row) → get_elem? (rows_from a n h) k ≡ some x → (k < n)
+    × (x ≡ row (a + k) (entries_by (a + k) h))
 row-at a zero k h x at = absurd (some-ne-none x (sym at))
 row-at a (suc n) zero h x at =
     let same : a ≡ a + 0 = omega arith in
@@ -43,7 +47,8 @@ row-at a (suc n) (suc k) h x at =
     (omega arith, r.1 ∙ ap (λ m. row m (entries_by m h)) same)
 
 -- the row at an index is that actor's
-pub row-of : (n k : ℕ) (h : List Entry) (x : Row) → get_elem? (rows_of n h) k ≡ some x → (k < n) × (x ≡ row k (entries_by k h))
+pub row-of : (n k : ℕ) (h : List Entry) (x : Row) → get_elem? (rows_of n h) k ≡ some x → (k < n)
+    × (x ≡ row k (entries_by k h))
 row-of n k h x at =
     let r = row-at 0 n k h x at in
     let same : 0 + k ≡ k = omega arith in
@@ -57,21 +62,25 @@ later a (suc n) h e below =
     let rest = later (a + 1) n h e (omega arith) in
     λ i. row a (same i) ∷ rest i
 
-set-from : (a n k : ℕ) (h : List Entry) (e : Entry) → k < n → e.actor ≡ a + k → set (rows_from a n h) k (row (a + k) (entries_by (a + k) h ++ e ∷ [])) ≡ rows_from a n (h ++ e ∷ [])
+set-from : (a n k : ℕ) (h : List Entry) (e : Entry) → k < n → e.actor ≡ a + k
+    → set (rows_from a n h) k (row (a + k) (entries_by (a + k) h ++ e ∷ [])) ≡ rows_from a n (h ++ e ∷ [])
 set-from a zero k h e inside is = absurd (omega arith)
 set-from a (suc n) zero h e inside is =
     let here : a + 0 ≡ a = omega arith in
-    let first : row (a + 0) (entries_by (a + 0) h ++ e ∷ []) ≡ row a (entries_by a (h ++ e ∷ [])) = ap (λ m. row m (entries_by m h ++ e ∷ [])) here ∙ ap (row a) (sym (own-push a h e (omega arith))) in
+    let first : row (a + 0) (entries_by (a + 0) h ++ e ∷ []) ≡ row a (entries_by a (h ++ e ∷ [])) =
+    ap (λ m. row m (entries_by m h ++ e ∷ [])) here ∙ ap (row a) (sym (own-push a h e (omega arith))) in
     let rest = later (a + 1) n h e (omega arith) in
     λ i. first i ∷ rest i
 set-from a (suc n) (suc k) h e inside is =
     let here : a + suc k ≡ a + 1 + k = omega arith in
     let same : entries_by a h ≡ entries_by a (h ++ e ∷ []) = sym (other-push a h e (grind (arith, nat_tests))) in
-    let rest = ap (λ m. set (rows_from (a + 1) n h) k (row m (entries_by m h ++ e ∷ []))) here ∙ set-from (a + 1) n k h e (omega arith) (omega arith) in
+    let rest = ap (λ m. set (rows_from (a + 1) n h) k (row m (entries_by m h ++ e ∷ []))) here
+    ∙ set-from (a + 1) n k h e (omega arith) (omega arith) in
     λ i. row a (same i) ∷ rest i
 
 -- one more entry changes the row of its actor alone
-pub rows-push : (n k : ℕ) (h : List Entry) (e : Entry) → k < n → e.actor ≡ k → set (rows_of n h) k (row k (entries_by k h ++ e ∷ [])) ≡ rows_of n (h ++ e ∷ [])
+pub rows-push : (n k : ℕ) (h : List Entry) (e : Entry) → k < n → e.actor ≡ k
+    → set (rows_of n h) k (row k (entries_by k h ++ e ∷ [])) ≡ rows_of n (h ++ e ∷ [])
 rows-push n k h e inside is =
     let here : k ≡ 0 + k = omega arith in
     ap (λ m. set (rows_of n h) k (row m (entries_by m h ++ e ∷ []))) here ∙ set-from 0 n k h e inside (omega arith)
@@ -88,26 +97,33 @@ none-by n [] all = refl
 none-by n (e ∷ h) all =
     let below : e.actor < n = All-head (λ (x : Entry). x.actor < n) e h all in
     let not : is_by n e ≡ false = grind (arith, nat_tests) in
-    ap (λ (c : Bool). cond c (e ∷ entries_by n h) (entries_by n h)) not ∙ none-by n h (All-tail (λ (x : Entry). x.actor < n) e h all)
+    ap (λ (c : Bool). cond c (e ∷ entries_by n h) (entries_by n h)) not
+    ∙ none-by n h (All-tail (λ (x : Entry). x.actor < n) e h all)
 
-more-from : (a n : ℕ) (h : List Entry) → entries_by (a + n) h ≡ [] → rows_from a n h ++ row (a + n) [] ∷ [] ≡ rows_from a (suc n) h
+more-from : (a n : ℕ) (h : List Entry) → entries_by (a + n) h ≡ []
+    → rows_from a n h ++ row (a + n) [] ∷ [] ≡ rows_from a (suc n) h
 more-from a zero h none =
     let here : a + 0 ≡ a = omega arith in
-    let first : row (a + 0) [] ≡ row a (entries_by a h) = ap (row (a + 0)) (sym none) ∙ ap (λ m. row m (entries_by m h)) here in
+    let first : row (a + 0) [] ≡ row a (entries_by a h) =
+    ap (row (a + 0)) (sym none) ∙ ap (λ m. row m (entries_by m h)) here in
     λ i. first i ∷ []
 more-from a (suc n) h none =
     let here : a + suc n ≡ a + 1 + n = omega arith in
-    let rest = ap (λ m. rows_from (a + 1) n h ++ row m [] ∷ []) here ∙ more-from (a + 1) n h (ap (λ m. entries_by m h) (sym here) ∙ none) in
+    let rest = ap (λ m. rows_from (a + 1) n h ++ row m [] ∷ []) here
+    ∙ more-from (a + 1) n h (ap (λ m. entries_by m h) (sym here) ∙ none) in
     ap (λ l. row a (entries_by a h) ∷ l) rest
 
 -- one more actor has a row without entries
-pub rows-more : (n : ℕ) (h : List Entry) → All (λ (e : Entry). e.actor < n) h → rows_of n h ++ row n [] ∷ [] ≡ rows_of (n + 1) h
+pub rows-more : (n : ℕ) (h : List Entry) → All (λ (e : Entry). e.actor < n) h
+    → rows_of n h ++ row n [] ∷ [] ≡ rows_of (n + 1) h
 rows-more n h all =
     let here : n ≡ 0 + n = omega arith in
     let one : suc n ≡ n + 1 = omega arith in
-    ap (λ m. rows_of n h ++ row m [] ∷ []) here ∙ more-from 0 n h (ap (λ m. entries_by m h) (sym here) ∙ none-by n h all) ∙ ap (λ m. rows_of m h) one
+    ap (λ m. rows_of n h ++ row m [] ∷ []) here
+    ∙ more-from 0 n h (ap (λ m. entries_by m h) (sym here) ∙ none-by n h all) ∙ ap (λ m. rows_of m h) one
 
-pub all-push : (n : ℕ) (h : List Entry) (e : Entry) → All (λ (x : Entry). x.actor < n) h → e.actor < n → All (λ (x : Entry). x.actor < n) (h ++ e ∷ [])
+pub all-push : (n : ℕ) (h : List Entry) (e : Entry) → All (λ (x : Entry). x.actor < n) h → e.actor < n
+    → All (λ (x : Entry). x.actor < n) (h ++ e ∷ [])
 all-push n h e all below = All-append (λ (x : Entry). x.actor < n) h (e ∷ []) all one
   where
     one : All (λ (x : Entry). x.actor < n) (e ∷ [])
@@ -122,12 +138,15 @@ range-more a zero = let here : a ≡ a + 0 = omega arith in ap (λ m. m ∷ []) 
 range-more a (suc n) =
     let more : suc n + 1 ≡ suc (n + 1) = omega arith in
     let here : a + 1 + n ≡ a + suc n = omega arith in
-    ap (range_with_len a) more ∙ ap (λ l. a ∷ l) (range-more (a + 1) n ∙ ap (λ m. range_with_len (a + 1) n ++ m ∷ []) here)
+    ap (range_with_len a) more
+    ∙ ap (λ l. a ∷ l) (range-more (a + 1) n ∙ ap (λ m. range_with_len (a + 1) n ++ m ∷ []) here)
 
 -- one more actor with the next number
-pub numbered : (actors : List Calling) (n : ℕ) (a : Calling) → n < length actors → a ≡ get_or actors n a → a.number ≡ n → map (λ (x : Calling). x.number) (take n actors) ≡ range_with_len 0 n
+pub numbered : (actors : List Calling) (n : ℕ) (a : Calling) → n < length actors → a ≡ get_or actors n a
+    → a.number ≡ n → map (λ (x : Calling). x.number) (take n actors) ≡ range_with_len 0 n
     → map (λ (x : Calling). x.number) (take (n + 1) actors) ≡ range_with_len 0 (n + 1)
 numbered actors n a inside at is so =
     let here : n ≡ 0 + n = omega arith in
-    ap (map (λ (x : Calling). x.number)) (taken-on actors n a inside at) ∙ map-append (λ (x : Calling). x.number) (take n actors) (a ∷ [])
+    ap (map (λ (x : Calling). x.number)) (taken-on actors n a inside at)
+    ∙ map-append (λ (x : Calling). x.number) (take n actors) (a ∷ [])
     ∙ (λ i. so i ++ (is ∙ here) i ∷ []) ∙ sym (range-more 0 n)

@@ -22,17 +22,24 @@ comparable (x ∷ xs) (y ∷ ys) [] p q = absurd (cc (p.1))
 comparable (x ∷ xs) (y ∷ ys) (z ∷ zs) p q =
     let heads : x ≡ y = cc (p.1, q.1) in
     let back : y ≡ x = sym heads in
-    ⊎_elim (λ (r : IsPrefix xs ys). inl (r.0, cc (heads, r.1))) (λ (r : IsPrefix ys xs). inr (r.0, cc (back, r.1))) (comparable xs ys zs (p.0, cc (p.1)) (q.0, cc (q.1)))
+    ⊎_elim (λ (r : IsPrefix xs ys). inl (r.0, cc (heads, r.1))) (λ (r : IsPrefix ys xs). inr (r.0, cc (back, r.1)))
+    (comparable xs ys zs (p.0, cc (p.1)) (q.0, cc (q.1)))
 
-pub agree : (history : List Entry) (one other : Watching) → IsWithin history one → IsWithin history other → IsPrefix one.seen other.seen ⊎ IsPrefix other.seen one.seen
+pub agree : (history : List Entry) (one other : Watching) → IsWithin history one → IsWithin history other
+    → IsPrefix one.seen other.seen ⊎ IsPrefix other.seen one.seen
 agree history one other first second = comparable one.seen other.seen history first.seen second.seen
 
 -- what is a part of the history of a word is a part of the board's
-pub within : (words start now : State) (history : List Entry) (logs : Logs) (w : Watching) → words ≡ start → w.word < word_count words → IsCurrent start now history logs → IsWithin (log_at logs w.word) w
+pub within : (words start now : State) (history : List Entry) (logs : Logs) (w : Watching) → words ≡ start
+    → w.word < word_count words → IsCurrent start now history logs → IsWithin (log_at logs w.word) w
     → IsWithin history w
 within words start now history logs w same there is part =
-    let later : IsPrefix (log_at logs w.word) history = is.later w.word (subst (λ (s : State). w.word < word_count s) same there) in
-    record { seen = prefix_trans w.seen (log_at logs w.word) history part.seen later; floor = prefix_trans w.floor (log_at logs w.word) history part.floor later }
+    let later : IsPrefix (log_at logs w.word) history =
+    is.later w.word (subst (λ (s : State). w.word < word_count s) same there) in
+    record {
+      seen = prefix_trans w.seen (log_at logs w.word) history part.seen later;
+      floor = prefix_trans w.floor (log_at logs w.word) history part.floor later;
+    }
 
 -- of the calls of an actor in a history, a prefix of the history has the first ones
 calls-append : (n : ℕ) (xs ys : List Entry) → calls_by n (xs ++ ys) ≡ calls_by n xs ++ calls_by n ys
@@ -40,18 +47,26 @@ calls-append n xs ys =
     let by = λ (e : Entry). n == e.actor in
     ap (map call_of) (filter-append by xs ys) ∙ map-append call_of (filter by xs) (filter by ys)
 
-first-calls : (n : ℕ) (seen history : List Entry) (calls : List Call) → IsPrefix seen history → calls_by n history ≡ calls → IsPrefix (calls_by n seen) calls
-first-calls n seen history calls part own = (calls_by n part.0, sym (calls-append n seen part.0) ∙ ap (calls_by n) part.1 ∙ own)
+first-calls : (n : ℕ) (seen history : List Entry) (calls : List Call) → IsPrefix seen history
+    → calls_by n history ≡ calls → IsPrefix (calls_by n seen) calls
+first-calls n seen history calls part own =
+    (calls_by n part.0, sym (calls-append n seen part.0) ∙ ap (calls_by n) part.1 ∙ own)
 
-pub sees : (start now : State) (history : List Entry) (actors : List Calling) (w : Watching) → IsEnded start now history actors → IsWithin history w
+pub sees : (start now : State) (history : List Entry) (actors : List Calling) (w : Watching)
+    → IsEnded start now history actors → IsWithin history w
     → All (λ (a : Calling). IsPrefix (calls_by a.number w.seen) a.calls) actors
-sees start now history actors w ended part = λ k d inside. let a = get_or actors k d in first-calls a.number w.seen history a.calls part.seen (ended.own k d inside)
+sees start now history actors w ended part =
+    λ k d inside. let a =
+    get_or actors k d in first-calls a.number w.seen history a.calls part.seen (ended.own k d inside)
 
 -- one more watcher was compared
-pub one-more : (history : List Entry) (watchers : List Watching) (n : ℕ) (w : Watching) → n < length watchers → w ≡ get_or watchers n w → IsWithin history w
-    → All (λ (x : Watching). IsWithin history x) (take n watchers) → All (λ (x : Watching). IsWithin history x) (take (n + 1) watchers)
+pub one-more : (history : List Entry) (watchers : List Watching) (n : ℕ) (w : Watching) → n < length watchers
+    → w ≡ get_or watchers n w → IsWithin history w
+    → All (λ (x : Watching). IsWithin history x) (take n watchers)
+    → All (λ (x : Watching). IsWithin history x) (take (n + 1) watchers)
 one-more history watchers n w inside at is all =
-    subst (All (λ (x : Watching). IsWithin history x)) (sym (taken-on watchers n w inside at)) (All-append (λ (x : Watching). IsWithin history x) (take n watchers) (w ∷ []) all one)
+    subst (All (λ (x : Watching). IsWithin history x)) (sym (taken-on watchers n w inside at))
+    (All-append (λ (x : Watching). IsWithin history x) (take n watchers) (w ∷ []) all one)
   where
     one : All (λ (x : Watching). IsWithin history x) (w ∷ [])
     one zero d here = is

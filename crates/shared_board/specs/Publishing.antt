@@ -16,7 +16,8 @@ pub record Publishing : Type 0 where
 abbrev pub publishing : Witnessed → Logs → Publishing
 publishing shared logs = record { shared = shared; logs = logs }
 
--- A checkpoint after a call: its words have the values of the state to which a legal history leads that ends with the call.
+-- A checkpoint after a call: its words have the values of the state to which a legal history leads that ends with the
+-- call.
 abbrev pub IsAfter : Words → ℕ → Event → Reply → Published → Type 0
 IsAfter words actor event reply checkpoint =
     (checkpoint.of ≡ words)

@@ -23,7 +23,8 @@ witnessed board history actors = record { board = board; history = history; acto
 abbrev pub with_entry : List Entry → ℕ → Event → Reply → List Entry
 with_entry history actor event reply = history ++ entry actor event reply ∷ []
 
--- What one thread could have done: the replies are those of the reference model from the state in which the board was shared, and the history leads to the board.
+-- What one thread could have done: the replies are those of the reference model from the state in which the board was
+-- shared, and the history leads to the board.
 pub record IsOneThread (start now : State) (history : List Entry) : Type 0 where
   pub legal : IsLegal start history
   pub leads : now ≡ leads_to start history

@@ -18,8 +18,10 @@ ghost use Rattle.shared_board.specs.Witnessed.{IsEnded};
 /// `Fresh`. The premises are what `SharedBoard::into_board` and `PostedWords::gather` ensure, and
 /// what each absorb adds to its actor and to its sweeper.
 pub fn each_fresh_raise_is_absorbed_once()
-    ensures { (start now : State) (history : List Entry) (actors : List Calling) (sweepers lines : List Token) (n : ℕ) (standing : List ℕ)
-        → IsEnded start now history actors → map actions_of sweepers ≡ map swept_by actors → All OnlyRaises lines → length standing ≡ n → Settled n (map actions_of (sweepers ++ lines)) standing
+    ensures { (start now : State) (history : List Entry) (actors : List Calling) (sweepers lines : List Token) (n : ℕ)
+        (standing : List ℕ)
+        → IsEnded start now history actors → map actions_of sweepers ≡ map swept_by actors → All OnlyRaises lines
+        → length standing ≡ n → Settled n (map actions_of (sweepers ++ lines)) standing
         → AreAbsorbed n (map actions_of lines) history standing }
 {}
 
@@ -27,7 +29,8 @@ pub fn each_fresh_raise_is_absorbed_once()
 /// what the other has seen. The premises are what `PublishingBoard::compare` and
 /// `WatchedBoard::into_board_with_watchers` ensure.
 pub fn two_watchers_agree()
-    ensures { (history : List Entry) (one other : Watching) → IsWithin history one → IsWithin history other → IsPrefix one.seen other.seen ⊎ IsPrefix other.seen one.seen }
+    ensures { (history : List Entry) (one other : Watching) → IsWithin history one → IsWithin history other
+        → IsPrefix one.seen other.seen ⊎ IsPrefix other.seen one.seen }
 {}
 
 /// With all actors back: in the history that a watcher has seen, the entries of each actor are that
@@ -35,5 +38,6 @@ pub fn two_watchers_agree()
 /// ensures.
 pub fn a_watcher_sees_first_calls()
     ensures { (start now : State) (history : List Entry) (actors : List Calling) (watcher : Watching)
-        → IsEnded start now history actors → IsWithin history watcher → All (λ (a : Calling). IsPrefix (calls_by a.number watcher.seen) a.calls) actors }
+        → IsEnded start now history actors → IsWithin history watcher
+        → All (λ (a : Calling). IsPrefix (calls_by a.number watcher.seen) a.calls) actors }
 {}

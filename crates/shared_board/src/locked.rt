@@ -42,7 +42,8 @@ impl<S: Sharing> Model for LockedBoard<S> {
 
     ghost view = { λ l. witnessed l.board l.history.entries l.actors };
 
-    ghost invariant = { λ l. (l.roster.name ≡ S.name) × IsRostered S.start (witnessed l.board l.history.entries l.actors) l.roster.rows };
+    ghost invariant = { λ l. (l.roster.name ≡ S.name)
+        × IsRostered S.start (witnessed l.board l.history.entries l.actors) l.roster.rows };
 }
 
 impl<S: Sharing> LockedBoard<S> {
@@ -81,7 +82,9 @@ impl<S: Sharing> LockedBoard<S> {
     /// Adds an actor, which has the next number and no calls. `None`, and no change, if there are
     /// 2^64 - 1 actors.
     pub fn enroll(&mut self) -> Option<Actor<S>>
-        ensures some { IfSome result (λ a. (a ≡ calling self.old.actors []) × (self.new ≡ witnessed self.old.board self.old.history (self.old.actors + 1))) }
+        ensures some { IfSome result
+            (λ a. (a ≡ calling self.old.actors [])
+            × (self.new ≡ witnessed self.old.board self.old.history (self.old.actors + 1))) }
         ensures none { IfNone result ((self.new ≡ self.old) × (self.old.actors ≡ 2 ^ 64 - 1)) }
     {
         let number = self.actors;
@@ -132,10 +135,12 @@ impl<S: Sharing> LockedBoard<S> {
         requires own { sweeper.old.of ≡ words.now.name }
         requires processors { words.now.processors ≡ processors S.start }
         ensures performs { Performs self.old.board (Absorb vp part result.0) self.new.board result.1 notices.new }
-        ensures history { self.new.history ≡ with_entry self.old.history actor.old.number (Absorb vp part result.0) result.1 }
+        ensures history { self.new.history
+            ≡ with_entry self.old.history actor.old.number (Absorb vp part result.0) result.1 }
         ensures actors { self.new.actors ≡ self.old.actors }
         ensures actor { actor.new ≡ with_call actor.old (Absorb vp part result.0) result.1 }
-        ensures swept { sweeper.new ≡ token sweeper.old.of (sweep_in (Absorb vp part result.0) result.1 ++ sweeper.old.actions) }
+        ensures swept { sweeper.new
+            ≡ token sweeper.old.of (sweep_in (Absorb vp part result.0) result.1 ++ sweeper.old.actions) }
         ensures refused { is_refusal result.1 ≡ true → result.0 ≡ 0 }
     {
         self.board();

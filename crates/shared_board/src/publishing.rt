@@ -43,7 +43,8 @@ impl<S: Watching> Model for PublishingBoard<S> {
 
     ghost view = { λ p. publishing p.locked p.publisher.logs };
 
-    ghost invariant = { λ p. (p.publisher.of ≡ words_of S.table S.start) × IsCurrent S.start p.locked.board.state p.locked.history p.publisher.logs };
+    ghost invariant = { λ p. (p.publisher.of ≡ words_of S.table S.start)
+        × IsCurrent S.start p.locked.board.state p.locked.history p.publisher.logs };
 }
 
 impl<S: Watching> PublishingBoard<S> {
@@ -69,7 +70,10 @@ impl<S: Watching> PublishingBoard<S> {
 
     /// Adds an actor, as `LockedBoard::enroll` does.
     pub fn enroll(&mut self) -> Option<Actor<S>>
-        ensures some { IfSome result (λ a. (a ≡ calling self.old.shared.actors []) × (self.new ≡ publishing (witnessed self.old.shared.board self.old.shared.history (self.old.shared.actors + 1)) self.old.logs)) }
+        ensures some { IfSome result
+            (λ a. (a ≡ calling self.old.shared.actors [])
+            × (self.new ≡ publishing
+            (witnessed self.old.shared.board self.old.shared.history (self.old.shared.actors + 1)) self.old.logs)) }
         ensures none { IfNone result ((self.new ≡ self.old) × (self.old.shared.actors ≡ 2 ^ 64 - 1)) }
     {
         self.locked.enroll()
@@ -86,7 +90,8 @@ impl<S: Watching> PublishingBoard<S> {
     ) -> Reply
         requires words { words.now ≡ words_of S.table S.start }
         ensures performs { Performs self.old.shared.board event.now self.new.shared.board result notices.new }
-        ensures history { self.new.shared.history ≡ with_entry self.old.shared.history actor.old.number event.now result }
+        ensures history { self.new.shared.history
+            ≡ with_entry self.old.shared.history actor.old.number event.now result }
         ensures actors { self.new.shared.actors ≡ self.old.shared.actors }
         ensures actor { actor.new ≡ with_call actor.old event.now result }
         ensures stored { IsStored S.start self.new.shared.history self.old.logs self.new.logs }
@@ -113,11 +118,14 @@ impl<S: Watching> PublishingBoard<S> {
         requires words { words.now ≡ words_of S.table S.start }
         requires own { sweeper.old.of ≡ posted.now.name }
         requires processors { posted.now.processors ≡ processors S.start }
-        ensures performs { Performs self.old.shared.board (Absorb vp part result.0) self.new.shared.board result.1 notices.new }
-        ensures history { self.new.shared.history ≡ with_entry self.old.shared.history actor.old.number (Absorb vp part result.0) result.1 }
+        ensures performs { Performs self.old.shared.board
+            (Absorb vp part result.0) self.new.shared.board result.1 notices.new }
+        ensures history { self.new.shared.history
+            ≡ with_entry self.old.shared.history actor.old.number (Absorb vp part result.0) result.1 }
         ensures actors { self.new.shared.actors ≡ self.old.shared.actors }
         ensures actor { actor.new ≡ with_call actor.old (Absorb vp part result.0) result.1 }
-        ensures swept { sweeper.new ≡ token sweeper.old.of (sweep_in (Absorb vp part result.0) result.1 ++ sweeper.old.actions) }
+        ensures swept { sweeper.new
+            ≡ token sweeper.old.of (sweep_in (Absorb vp part result.0) result.1 ++ sweeper.old.actions) }
         ensures refused { is_refusal result.1 ≡ true → result.0 ≡ 0 }
         ensures stored { IsStored S.start self.new.shared.history self.old.logs self.new.logs }
     {

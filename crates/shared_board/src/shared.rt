@@ -90,7 +90,8 @@ impl<S: Sharing> SharedBoard<S> {
         requires own { sweeper.old.of ≡ words.now.name }
         requires processors { words.now.processors ≡ processors S.start }
         ensures actor { actor.new ≡ with_call actor.old (Absorb vp part result.0) result.1 }
-        ensures swept { sweeper.new ≡ token sweeper.old.of (sweep_in (Absorb vp part result.0) result.1 ++ sweeper.old.actions) }
+        ensures swept { sweeper.new
+            ≡ token sweeper.old.of (sweep_in (Absorb vp part result.0) result.1 ++ sweeper.old.actions) }
         ensures refused { is_refusal result.1 ≡ true → result.0 ≡ 0 }
     {
         let mut guard = self.locked.lock(rt);

@@ -108,9 +108,11 @@ impl<S: Watching> WatchedBoard<S> {
         requires own { sweeper.old.of ≡ posted.now.name }
         requires processors { posted.now.processors ≡ processors S.start }
         ensures actor { actor.new ≡ with_call actor.old (Absorb vp part result.0) result.1 }
-        ensures swept { sweeper.new ≡ token sweeper.old.of (sweep_in (Absorb vp part result.0) result.1 ++ sweeper.old.actions) }
+        ensures swept { sweeper.new
+            ≡ token sweeper.old.of (sweep_in (Absorb vp part result.0) result.1 ++ sweeper.old.actions) }
         ensures refused { is_refusal result.1 ≡ true → result.0 ≡ 0 }
-        ensures after { IsAfter (words_of S.table S.start) actor.old.number (Absorb vp part result.0) result.1 result.2 }
+        ensures after { IsAfter (words_of S.table S.start) actor.old.number
+            (Absorb vp part result.0) result.1 result.2 }
     {
         let mut guard = self.locked.lock(rt);
         let locked = &mut *guard;

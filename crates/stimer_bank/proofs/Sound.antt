@@ -14,7 +14,8 @@ disabled-off : (config : ℕ) → is_enabled (disabled config) ≡ false
 disabled-off config = let even : (config - config % 2) / 2 ^ 0 % 2 ≡ 0 = omega arith in ap (λ x. x == 1) even
 
 ruled-disabled : (config : ℕ) → IsStored config → IsRuled (disabled config)
-ruled-disabled config stored = record { stored = stored-disabled config stored; heard = λ on. let off = disabled-off config in absurd (cc) }
+ruled-disabled config stored =
+    record { stored = stored-disabled config stored; heard = λ on. let off = disabled-off config in absurd (cc) }
 
 ruled-normalized : (config : ℕ) → IsStored config → IsRuled (normalized config)
 ruled-normalized config stored = by (has_no_target config) refl
@@ -29,17 +30,25 @@ ruled-config value = ruled-normalized (bit_and value 0xf1fff) (stored-written va
 pub ruled-count : (config value : ℕ) → IsRuled config → IsRuled (written_count config value)
 ruled-count config value ruled = by (value == 0) (enables_itself config)
   where
-    by : (zero itself : Bool) → IsRuled (if zero then disabled config else (if itself then normalized (enabled config) else config))
+    by : (zero itself : Bool)
+        → IsRuled (if zero then disabled config else (if itself then normalized (enabled config) else config))
     by true itself = ruled-disabled config ruled.stored
     by false true = ruled-normalized (enabled config) (stored-enabled config ruled.stored)
     by false false = ruled
 
 -- a timer that is started
-pub sound-started : (config count moment : ℕ) → IsRuled config → IsSoundTimer (record { config = config; count = count; due = started config count moment })
+pub sound-started : (config count moment : ℕ) → IsRuled config
+    → IsSoundTimer (record { config = config; count = count; due = started config count moment })
 sound-started config count moment ruled = by (is_enabled config) refl (count == 0) refl (is_periodic config) refl
   where
-    by : (on : Bool) → is_enabled config ≡ on → (none : Bool) → (count == 0) ≡ none → (periodic : Bool) → is_periodic config ≡ periodic →
-        IsSoundTimer (record { config = config; count = count; due = if not on || none then None else (if periodic then Some (moment + count) else Some count) })
+    by : (on : Bool) → is_enabled config ≡ on → (none : Bool) → (count == 0) ≡ none → (periodic : Bool)
+        → is_periodic config ≡ periodic →
+        IsSoundTimer
+        (record {
+          config = config;
+          count = count;
+          due = if not on || none then None else (if periodic then Some (moment + count) else Some count);
+        })
     by false off none _ periodic _ = record {
       normalized = ruled;
       started = λ on some. absurd (cc);
@@ -77,13 +86,17 @@ pub sound-config : (x : Timer) (value moment : ℕ) → IsSoundTimer (after_conf
 sound-config x value moment = sound-started (written_config value) x.count moment (ruled-config value)
 
 pub sound-count : (x : Timer) (value moment : ℕ) → IsSoundTimer x → IsSoundTimer (after_count x value moment)
-sound-count x value moment sound = sound-started (written_count x.config value) value moment (ruled-count x.config value sound.normalized)
+sound-count x value moment sound =
+    sound-started (written_count x.config value) value moment (ruled-count x.config value sound.normalized)
 
 -- a periodic timer is due at most a period after it is started
-pub near-started : (config count moment d : ℕ) → is_periodic config ≡ true → started config count moment ≡ Some d → d ≤ moment + count
-near-started config count moment d periodic is = by (not (is_enabled config) || count == 0) (is_periodic config) periodic is
+pub near-started : (config count moment d : ℕ) → is_periodic config ≡ true → started config count moment ≡ Some d
+    → d ≤ moment + count
+near-started config count moment d periodic is =
+    by (not (is_enabled config) || count == 0) (is_periodic config) periodic is
   where
-    by : (none p : Bool) → p ≡ true → (if none then None else (if p then Some (moment + count) else Some count)) ≡ Some d → d ≤ moment + count
+    by : (none p : Bool) → p ≡ true
+        → (if none then None else (if p then Some (moment + count) else Some count)) ≡ Some d → d ≤ moment + count
     by true p _ is = absurd (none-some d is)
     by false true _ is = omega (arith, same_Some _ _ is)
     by false false off is = absurd (cc)
@@ -106,11 +119,13 @@ record IsNext (x : Timer) (moment : ℕ) : Type 0 where
   pub after : x.count ≤ next
   pub near : next ≤ moment + x.count
 
-is-next : (x : Timer) (moment : ℕ) → is_periodic x.config ≡ true → is_due x moment ≡ true → IsSoundTimer x → IsNext x moment
+is-next : (x : Timer) (moment : ℕ) → is_periodic x.config ≡ true → is_due x moment ≡ true → IsSoundTimer x
+    → IsNext x moment
 is-next x moment periodic due sound =
     let p = past x moment due in
     let d : ℕ = p.0 in
-    let all : AccountsForAll x.count d moment (expired x d moment) = accounts x d moment periodic (sound.some d p.1) p.2 in
+    let all : AccountsForAll x.count d moment (expired x d moment) =
+    accounts x d moment periodic (sound.some d p.1) p.2 in
     let first : x.count ≤ d = sound.period d p.1 periodic in
     record {
       next = all.next;
@@ -127,10 +142,12 @@ is-next x moment periodic due sound =
 expired-once : (x : Timer) (d moment : ℕ) → is_periodic x.config ≡ false → expired x d moment ≡ once d
 expired-once x d moment single = rw single refl
 
-after-once : (x : Timer) (moment : ℕ) → is_periodic x.config ≡ false → (after_expiry x moment).0 ≡ record { config = disabled x.config; count = x.count; due = None }
+after-once : (x : Timer) (moment : ℕ) → is_periodic x.config ≡ false
+    → (after_expiry x moment).0 ≡ record { config = disabled x.config; count = x.count; due = None }
 after-once x moment single = rw single refl
 
-pub sound-expired : (x : Timer) (moment : ℕ) → is_due x moment ≡ true → IsSoundTimer x → IsSoundTimer (after_expiry x moment).0
+pub sound-expired : (x : Timer) (moment : ℕ) → is_due x moment ≡ true → IsSoundTimer x
+    → IsSoundTimer (after_expiry x moment).0
 sound-expired x moment due sound = by (is_periodic x.config) refl
   where
     by : (b : Bool) → is_periodic x.config ≡ b → IsSoundTimer (after_expiry x moment).0
@@ -156,7 +173,9 @@ sound-expired x moment due sound = by (is_periodic x.config) refl
           period = λ d is. absurd (none-some d is);
         }
 
-pub near-expired : (x : Timer) (moment d : ℕ) → is_due x moment ≡ true → IsSoundTimer x → is_periodic (after_expiry x moment).0.config ≡ true → (after_expiry x moment).0.due ≡ Some d → d ≤ moment + (after_expiry x moment).0.count
+pub near-expired : (x : Timer) (moment d : ℕ) → is_due x moment ≡ true → IsSoundTimer x
+    → is_periodic (after_expiry x moment).0.config ≡ true → (after_expiry x moment).0.due ≡ Some d
+    → d ≤ moment + (after_expiry x moment).0.count
 near-expired x moment d due sound periodic is = by (is_periodic x.config) refl
   where
     by : (b : Bool) → is_periodic x.config ≡ b → d ≤ moment + (after_expiry x moment).0.count
@@ -171,7 +190,8 @@ pub aimed-due : (x : Timer) (moment : ℕ) → is_due x moment ≡ true → IsSo
 aimed-due x moment due sound = let p = past x moment due in sound.normalized.heard (sound.enabled p.0 p.1)
 
 -- an expiry signals a deadline that has passed
-pub signals-past : (x : Timer) (moment : ℕ) → is_due x moment ≡ true → IsSoundTimer x → (d : ℕ) → (after_expiry x moment).1.signal ≡ Some d → d ≤ moment
+pub signals-past : (x : Timer) (moment : ℕ) → is_due x moment ≡ true → IsSoundTimer x → (d : ℕ)
+    → (after_expiry x moment).1.signal ≡ Some d → d ≤ moment
 signals-past x moment due sound d is = by (is_periodic x.config) refl
   where
     p : IsPast x moment
@@ -182,4 +202,7 @@ signals-past x moment due sound d is = by (is_periodic x.config) refl
 
     by : (b : Bool) → is_periodic x.config ≡ b → d ≤ moment
     by true periodic = ((accounts x p.0 moment periodic (sound.some p.0 p.1) p.2).past d at).1
-    by false single = let same : p.0 ≡ d = same_Some _ _ (sym (ap (λ (e : Expired). e.signal) (expired-once x p.0 moment single)) ∙ at) in omega (arith, same, p.2)
+    by false single =
+        let same : p.0 ≡ d =
+        same_Some _ _ (sym (ap (λ (e : Expired). e.signal) (expired-once x p.0 moment single)) ∙ at) in
+        omega (arith, same, p.2)

@@ -44,7 +44,9 @@ with_suspension b p mark = record b { suspended = slice_set b.suspended p mark }
 
 -- the timers of processor p are idle, and it is not suspended
 abbrev pub reset : Bank → Processor → Bank
-reset b p = with_suspension (with_timer (with_timer (with_timer (with_timer b (p, 0) idle_timer) (p, 1) idle_timer) (p, 2) idle_timer) (p, 3) idle_timer) p false
+reset b p = with_suspension
+    (with_timer (with_timer (with_timer (with_timer b (p, 0) idle_timer) (p, 1) idle_timer) (p, 2) idle_timer)
+    (p, 3) idle_timer) p false
 
 -- the deadline of timer n, or none if its processor is suspended
 abbrev pub active_due : Bank → ℕ → Option Moment
@@ -68,7 +70,8 @@ is_later m d t = option_map_or (λ e. nat_lt d e) (due_of m t) false
 -- timer n is inserted into a list if it is due, before the first timer with a later deadline
 abbrev pub listed : Dues → Moment → ℕ → List TimerId → List TimerId
 listed m moment n ts =
-    option_map_or (λ d. if nat_le d moment then insert ts (position_or_len (is_later m d) ts) (timer_of n) else ts) (slice_index_or m n None) ts
+    option_map_or (λ d. if nat_le d moment then insert ts (position_or_len (is_later m d) ts) (timer_of n) else ts)
+    (slice_index_or m n None) ts
 
 -- the timers with numbers below n that are due at a time, by (deadline, processor, index)
 unfoldable pub due_below : Dues → Moment → ℕ → List TimerId

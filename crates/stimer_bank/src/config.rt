@@ -34,7 +34,8 @@ impl Flags for ConfigWord {
 
     ghost exact = { ⊤ };
 
-    ghost table = { (codes "ENABLED", 0x1) ∷ (codes "PERIODIC", 0x2) ∷ (codes "LAZY", 0x4) ∷ (codes "AUTO_ENABLE", 0x8) ∷ (codes "DIRECT", 0x1000) ∷ [] };
+    ghost table = { (codes "ENABLED", 0x1) ∷ (codes "PERIODIC", 0x2) ∷ (codes "LAZY", 0x4)
+        ∷ (codes "AUTO_ENABLE", 0x8) ∷ (codes "DIRECT", 0x1000) ∷ [] };
 
     ghost set_of = { λ p. p.0 };
 

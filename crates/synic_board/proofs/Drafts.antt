@@ -59,12 +59,21 @@ use Rattle.synic_board.proofs.keeping.Buffers.{buffers-opened, buffers-opened_po
 use Rattle.synic_board.proofs.keeping.Settled.{settled-same, settled-processor, settled-timer, settled-step, settled-opened}
 
 -- a change that moves no message
-pub draft-still : (s now : State) (tickets : List ℕ) → IsIntact (processors s) now → AreStill s now → now.ports ≡ s.ports → IsTimed now → HasPairedTimers now → IsDraft s tickets → IsDraft now tickets
+pub draft-still : (s now : State) (tickets : List ℕ) → IsIntact (processors s) now → AreStill s now
+    → now.ports ≡ s.ports → IsTimed now → HasPairedTimers now → IsDraft s tickets → IsDraft now tickets
 draft-still s now tickets intact same ports timed settled h = record {
-  sound = sound_from_kept (processors s) now intact (tickets-conserved s now [] (omega (arith, same.next)) (still s now [] same (λ t. refl)) h.sound.tickets);
+  sound = sound_from_kept (processors s) now intact
+      (tickets-conserved s now [] (omega (arith, same.next)) (still s now [] same (λ t. refl)) h.sound.tickets);
   buffers = unmoved s now same.queues ports timed h.buffers;
   settled = settled;
-  listed = λ t. omega (arith, h.listed t, times-locations t s, times-locations t now, ap (in_queues t) same.queues, ap (in_slots t) same.slots);
+  listed = λ t. omega (
+    arith,
+    h.listed t,
+    times-locations t s,
+    times-locations t now,
+    ap (in_queues t) same.queues,
+    ap (in_slots t) same.slots,
+  );
 }
 
 pub draft-opened : (n pages ticket : ℕ) → n ≤ 64 → IsDraft (opened n pages ticket) []
@@ -75,57 +84,86 @@ draft-opened n pages ticket bound = record {
   listed = λ t. sym (no-locations n pages ticket t);
 }
 
-pub draft-moment : (s : State) (moment : ℕ) (tickets : List ℕ) → s.moment ≤ moment → IsDraft s tickets → IsDraft (at_moment s moment) tickets
-draft-moment s moment tickets later h = draft-still s (at_moment s moment) tickets (kept-moment (processors s) s moment (kept_from_sound s h.sound))
-    (record { queues = refl; slots = refl; next = refl }) refl (timed-moment s moment later h.buffers.timed) (settled-same s _ refl refl refl h.settled) h
+pub draft-moment : (s : State) (moment : ℕ) (tickets : List ℕ) → s.moment ≤ moment → IsDraft s tickets
+    → IsDraft (at_moment s moment) tickets
+draft-moment s moment tickets later h =
+    draft-still s (at_moment s moment) tickets (kept-moment (processors s) s moment (kept_from_sound s h.sound))
+    (record { queues = refl; slots = refl; next = refl }) refl (timed-moment s moment later h.buffers.timed)
+    (settled-same s _ refl refl refl h.settled) h
 
-pub draft-processor : (s : State) (p : ℕ) (a : Apic) (tickets : List ℕ) → p < processors s → IsDraft s tickets → IsDraft (with_processor s p a) tickets
+pub draft-processor : (s : State) (p : ℕ) (a : Apic) (tickets : List ℕ) → p < processors s → IsDraft s tickets
+    → IsDraft (with_processor s p a) tickets
 draft-processor s p a tickets on h =
     let n = processors s in
     let first = kept-apic n s p a (kept_from_sound s h.sound) in
     let marked = bank_with_suspension (bank_of s) p a.suspended in
     draft-still s (with_processor s p a) tickets (kept-bank n (with_apic s p a) marked h.sound.whole.timers first)
-    (record { queues = refl; slots = refl; next = refl }) refl (timed-same s (with_processor s p a) refl refl refl refl h.buffers.timed) (settled-processor s p a on h.settled) h
+    (record { queues = refl; slots = refl; next = refl }) refl
+    (timed-same s (with_processor s p a) refl refl refl refl h.buffers.timed)
+    (settled-processor s p a on h.settled) h
 
-pub draft-timer : (s : State) (t : ℕ × ℕ) (x : Timer) (tickets : List ℕ) → t.0 < processors s → t.1 < 4 → MayCount s x → IsDraft s tickets → IsDraft (with_saved_timer s t x) tickets
+pub draft-timer : (s : State) (t : ℕ × ℕ) (x : Timer) (tickets : List ℕ) → t.0 < processors s → t.1 < 4 → MayCount s x
+    → IsDraft s tickets → IsDraft (with_saved_timer s t x) tickets
 draft-timer s t x tickets on low may h =
     draft-still s (with_saved_timer s t x) tickets (kept-timer (processors s) s t x (kept_from_sound s h.sound))
-    (record { queues = refl; slots = refl; next = refl }) refl (timed-timer s t x may.sound may.near h.buffers.timed) (settled-timer s t x h.settled) h
+    (record { queues = refl; slots = refl; next = refl }) refl (timed-timer s t x may.sound may.near h.buffers.timed)
+    (settled-timer s t x h.settled) h
 
-pub draft-regs : (s : State) (p : ℕ) (r : Regs) (tickets : List ℕ) → IsDraft s tickets → IsDraft (with_regs s p r) tickets
-draft-regs s p r tickets h = draft-still s (with_regs s p r) tickets (kept-regs (processors s) s p r (kept_from_sound s h.sound))
-    (record { queues = refl; slots = refl; next = refl }) refl (timed-same s (with_regs s p r) refl refl refl refl h.buffers.timed) (settled-same s _ refl refl refl h.settled) h
+pub draft-regs : (s : State) (p : ℕ) (r : Regs) (tickets : List ℕ) → IsDraft s tickets
+    → IsDraft (with_regs s p r) tickets
+draft-regs s p r tickets h =
+    draft-still s (with_regs s p r) tickets (kept-regs (processors s) s p r (kept_from_sound s h.sound))
+    (record { queues = refl; slots = refl; next = refl }) refl
+    (timed-same s (with_regs s p r) refl refl refl refl h.buffers.timed)
+    (settled-same s _ refl refl refl h.settled) h
 
-pub draft-stored : (s : State) (p : ℕ) (r : Register) (value : ℕ) (tickets : List ℕ) → IsDraft s tickets → IsDraft (stored s p r value).0 tickets
-draft-stored s p r value tickets h = either (λ (o : Outcome). IsDraft o.0 tickets) (is_refused r value) _ _ (λ _. h) (λ _. draft-regs s p (with_value (regs_of s p) r value) tickets h)
+pub draft-stored : (s : State) (p : ℕ) (r : Register) (value : ℕ) (tickets : List ℕ) → IsDraft s tickets
+    → IsDraft (stored s p r value).0 tickets
+draft-stored s p r value tickets h =
+    either (λ (o : Outcome). IsDraft o.0 tickets) (is_refused r value) _ _ (λ _. h)
+    (λ _. draft-regs s p (with_value (regs_of s p) r value) tickets h)
 
-settled-opened_port : (s : State) (port p i : ℕ) (shape : PortShape) → HasPairedTimers s → HasPairedTimers (opened_port s port p i shape).0
+settled-opened_port : (s : State) (port p i : ℕ) (shape : PortShape) → HasPairedTimers s
+    → HasPairedTimers (opened_port s port p i shape).0
 unfolding step
 settled-opened_port s port p i shape h = settled-step s (OpenPort port p i shape) h
 
-pub draft-port : (s : State) (port p i : ℕ) (shape : PortShape) (tickets : List ℕ) → IsDraft s tickets → IsDraft (opened_port s port p i shape).0 tickets
+pub draft-port : (s : State) (port p i : ℕ) (shape : PortShape) (tickets : List ℕ) → IsDraft s tickets
+    → IsDraft (opened_port s port p i shape).0 tickets
 draft-port s port p i shape tickets h =
     let o : Outcome = opened_port s port p i shape in
     let keeps = keeps-opened_port (processors s) s port p i shape (kept_from_sound s h.sound) in
     let same = port-still s port p i shape in
     record {
-      sound = sound_from_kept (processors s) o.0 keeps.kept (tickets-conserved s o.0 o.2 keeps.tickets_monotone keeps.conserves h.sound.tickets);
+      sound = sound_from_kept (processors s) o.0 keeps.kept
+          (tickets-conserved s o.0 o.2 keeps.tickets_monotone keeps.conserves h.sound.tickets);
       buffers = buffers-opened_port s port p i shape h.buffers;
       settled = settled-opened_port s port p i shape h.settled;
-      listed = λ t. omega (arith, h.listed t, times-locations t s, times-locations t o.0, ap (in_queues t) same.0, ap (in_slots t) same.1);
+      listed = λ t. omega (
+        arith,
+        h.listed t,
+        times-locations t s,
+        times-locations t o.0,
+        ap (in_queues t) same.0,
+        ap (in_slots t) same.1,
+      );
     }
   where
-    port-still : (s : State) (port p i : ℕ) (shape : PortShape) → ((opened_port s port p i shape).0.queues ≡ s.queues) × ((opened_port s port p i shape).0.slots ≡ s.slots)
+    port-still : (s : State) (port p i : ℕ) (shape : PortShape) → ((opened_port s port p i shape).0.queues ≡ s.queues)
+        × ((opened_port s port p i shape).0.slots ≡ s.slots)
     port-still s port p i shape = judged (open_refusal (ports_of s) port p i shape)
       where
         judged : (o : Option Refusal) →
-            ((option_map_or (refused s) o (unchanged (with_port s port (record { vp = p; sint = i; shape = shape })) Done)).0.queues ≡ s.queues)
-            × ((option_map_or (refused s) o (unchanged (with_port s port (record { vp = p; sint = i; shape = shape })) Done)).0.slots ≡ s.slots)
+            ((option_map_or (refused s) o
+            (unchanged (with_port s port (record { vp = p; sint = i; shape = shape })) Done)).0.queues ≡ s.queues)
+            × ((option_map_or (refused s) o
+            (unchanged (with_port s port (record { vp = p; sint = i; shape = shape })) Done)).0.slots ≡ s.slots)
         judged None = (refl, refl)
         judged (Some r) = (refl, refl)
 
 -- bytes of pages
-pub draft-guest : (s : State) (page at : ℕ) (bytes : List ℕ) (tickets : List ℕ) → IsDraft s tickets → IsDraft (with_guest_bytes s page at bytes) tickets
+pub draft-guest : (s : State) (page at : ℕ) (bytes : List ℕ) (tickets : List ℕ) → IsDraft s tickets
+    → IsDraft (with_guest_bytes s page at bytes) tickets
 draft-guest s page at bytes tickets h =
     let whole = kept_from_sound s h.sound in
     draft-still s (with_guest_bytes s page at bytes) tickets (record {
@@ -141,16 +179,21 @@ draft-guest s page at bytes tickets h =
         messages = whole.whole.messages;
       };
       empty = whole.empty;
-    }) (record { queues = refl; slots = refl; next = refl }) refl (timed-same s (with_guest_bytes s page at bytes) refl refl refl refl h.buffers.timed) (settled-same s _ refl refl refl h.settled) h
+    }) (record { queues = refl; slots = refl; next = refl }) refl
+    (timed-same s (with_guest_bytes s page at bytes) refl refl refl refl h.buffers.timed)
+    (settled-same s _ refl refl refl h.settled) h
 
-pub draft-own : (s : State) (p : ℕ) (kind : Kind) (at : ℕ) (bytes : List ℕ) (tickets : List ℕ) → p < processors s → at + length bytes ≤ 4096 → HasNoTickets s p →
+pub draft-own : (s : State) (p : ℕ) (kind : Kind) (at : ℕ) (bytes : List ℕ) (tickets : List ℕ) → p < processors s
+    → at + length bytes ≤ 4096 → HasNoTickets s p →
     IsDraft s tickets → IsDraft (with_own_bytes s p kind at bytes) tickets
 draft-own s p kind at bytes tickets below fits none h =
     draft-still s (with_own_bytes s p kind at bytes) tickets (record {
       count = refl;
       whole = own-whole n s k page whole.whole long;
       empty = λ q j within inside. free q j within inside (cases_eq q p);
-    }) (record { queues = refl; slots = refl; next = refl }) refl (timed-same s (with_own_bytes s p kind at bytes) refl refl refl refl h.buffers.timed) (settled-same s _ refl refl refl h.settled) h
+    }) (record { queues = refl; slots = refl; next = refl }) refl
+    (timed-same s (with_own_bytes s p kind at bytes) refl refl refl refl h.buffers.timed)
+    (settled-same s _ refl refl refl h.settled) h
   where
     n : ℕ
     n = processors s
@@ -186,26 +229,37 @@ one-other x t ne = grind (arith, nat_tests)
 one-bound : (x t : ℕ) → one x t ≤ 1
 one-bound x t = grind (arith, nat_tests)
 
-tickets-joined : (s now : State) (x : ℕ) → now.next_ticket ≡ s.next_ticket → IsUnplaced s x → ((t : ℕ) → times t (locations now) ≡ times t (locations s) + one x t) → AreTickets s → AreTickets now
+tickets-joined : (s now : State) (x : ℕ) → now.next_ticket ≡ s.next_ticket → IsUnplaced s x
+    → ((t : ℕ) → times t (locations now) ≡ times t (locations s) + one x t) → AreTickets s → AreTickets now
 tickets-joined s now x next loose more h = record {
   once = λ t. once t (cases_eq x t);
-  given_before = λ t high. omega (arith, more t, h.given_before t (omega (arith, next, high)), one-other x t (λ e. omega (arith, e, next, high, loose.given)));
+  given_before =
+      λ t high. omega (
+        arith,
+        more t,
+        h.given_before t (omega (arith, next, high)),
+        one-other x t (λ e. omega (arith, e, next, high, loose.given)),
+      );
 }
   where
     once : (t : ℕ) → (x ≡ t) ⊎ (x ≢ t) → times t (locations now) ≤ 1
     once t (inl same) = omega (arith, more t, one-bound x t, ap (λ y. times y (locations s)) same, loose.nowhere)
     once t (inr other) = omega (arith, more t, h.once t, one-other x t other)
 
-listed-joined : (s now : State) (tickets : List ℕ) (x : ℕ) → ((t : ℕ) → times t (locations now) ≡ times t (locations s) + one x t) →
-    ((t : ℕ) → times t tickets ≡ times t (locations s)) → (t : ℕ) → times t (tickets ++ x ∷ []) ≡ times t (locations now)
+listed-joined : (s now : State) (tickets : List ℕ) (x : ℕ)
+    → ((t : ℕ) → times t (locations now) ≡ times t (locations s) + one x t) →
+    ((t : ℕ) → times t tickets ≡ times t (locations s)) → (t : ℕ)
+    → times t (tickets ++ x ∷ []) ≡ times t (locations now)
 listed-joined s now tickets x more h t = omega (arith, more t, h t, sum_by_push (λ y. one y t) tickets x)
 
 -- a port that is open for messages to a source
-pub has-free : (s : State) (port p i buffers used : ℕ) (at : Port) → port_at (ports_of s) port ≡ Some at → at.vp ≡ p → at.sint ≡ i → at.shape ≡ Messages buffers → used ≡ port_used s.queues port →
+pub has-free : (s : State) (port p i buffers used : ℕ) (at : Port) → port_at (ports_of s) port ≡ Some at → at.vp ≡ p
+    → at.sint ≡ i → at.shape ≡ Messages buffers → used ≡ port_used s.queues port →
     IsTrue (nat_lt used buffers) ↔ (SendsTo s.ports port p i × HasFreeBuffer s port)
 has-free s port p i buffers used at is vp sint shape same = (
   λ low. (sends, λ q e. let now : buffers_of q.shape ≡ buffers = share q e in omega (arith, below low, same, now)),
-  λ free. (let now : port_used s.queues port < buffers_of at.shape = free.1 at is in let few : used < buffers = omega (arith, now, same, ap buffers_of shape) in above few),
+  λ free. (let now : port_used s.queues port < buffers_of at.shape = free.1 at is in
+      let few : used < buffers = omega (arith, now, same, ap buffers_of shape) in above few),
 )
   where
     target : Port
@@ -236,12 +290,17 @@ has-free s port p i buffers used at is vp sint shape same = (
     above low = grind (arith, nat_tests)
 
 -- a message joins a queue
-fits-of : (s : State) (p i : ℕ) (m : Message) → i < 16 → IsHome s.ports p i m → HasBuffer s.queues m → IsWithinShare s m → Fits s p i m
+fits-of : (s : State) (p i : ℕ) (m : Message) → i < 16 → IsHome s.ports p i m → HasBuffer s.queues m
+    → IsWithinShare s m → Fits s p i m
 fits-of s p i (FromPort ticket port kind payload) under home buffer share =
-    port-fits s p i ticket port kind payload under home.0 home.1 buffer.1 (share (record { vp = p; sint = i; shape = Messages home.1.0 }) home.1.1)
-fits-of s p i (FromTimer ticket t expiration) under home buffer share = subst (λ q. Fits s q i (FromTimer ticket t expiration)) home.0 (timer-fits s t i ticket expiration under home.1 buffer.1)
+    port-fits s p i ticket port kind payload under home.0 home.1 buffer.1
+    (share (record { vp = p; sint = i; shape = Messages home.1.0 }) home.1.1)
+fits-of s p i (FromTimer ticket t expiration) under home buffer share =
+    subst (λ q. Fits s q i (FromTimer ticket t expiration)) home.0
+    (timer-fits s t i ticket expiration under home.1 buffer.1)
 
-pub draft-message : (s : State) (p i : ℕ) (m : Message) (tickets : List ℕ) → p < processors s → i < 16 → MayJoin s p i m → IsDraft s tickets →
+pub draft-message : (s : State) (p i : ℕ) (m : Message) (tickets : List ℕ) → p < processors s → i < 16
+    → MayJoin s p i m → IsDraft s tickets →
     IsDraft (with_message s p i m) (tickets ++ ticket_of m ∷ [])
 draft-message s p i m tickets below under may h = record {
   sound = sound_from_kept n now intact (tickets-joined s now (ticket_of m) refl may.ticket moved h.sound.tickets);
@@ -267,8 +326,10 @@ draft-message s p i m tickets below under may h = record {
 
     timed : IsTimed now
     timed = timed-queue s now (source_number p i) q refl refl refl refl
-        (ascends-push s.next_ticket (queue_of s.queues p i) m may.order may.ticket.given (h.buffers.timed.order (source_number p i)))
-        (All-push (HasExpired s.moment (source_number p i % 16)) (queue_of s.queues p i) m (h.buffers.timed.timely (source_number p i))
+        (ascends-push s.next_ticket (queue_of s.queues p i) m may.order may.ticket.given
+        (h.buffers.timed.order (source_number p i)))
+        (All-push (HasExpired s.moment (source_number p i % 16)) (queue_of s.queues p i) m
+        (h.buffers.timed.timely (source_number p i))
         (subst (λ k. HasExpired s.moment k m) (sym place) may.time)) h.buffers.timed
 
     intact : IsIntact n now
@@ -283,7 +344,8 @@ draft-message s p i m tickets below under may h = record {
         ports = whole.whole.ports;
         timers = whole.whole.timers;
         messages = All-set (All IsMessage) s.queues (source_number p i) q
-            (All-append IsMessage (queue_of s.queues p i) (m ∷ []) (queue-good n s p i whole.whole below under) (All-cons IsMessage m [] may.message (All-nil IsMessage))) whole.whole.messages;
+            (All-append IsMessage (queue_of s.queues p i) (m ∷ []) (queue-good n s p i whole.whole below under)
+            (All-cons IsMessage m [] may.message (All-nil IsMessage))) whole.whole.messages;
       };
       empty = whole.empty;
     }
@@ -298,7 +360,8 @@ draft-message s p i m tickets below under may h = record {
     )
 
 -- a ticket is in a slot
-pub draft-ticket : (s : State) (p i x : ℕ) (tickets : List ℕ) → p < processors s → i < 16 → MayOccupy s p i x → IsDraft s tickets → IsDraft (with_slot_ticket s p i (Some x)) (tickets ++ x ∷ [])
+pub draft-ticket : (s : State) (p i x : ℕ) (tickets : List ℕ) → p < processors s → i < 16 → MayOccupy s p i x
+    → IsDraft s tickets → IsDraft (with_slot_ticket s p i (Some x)) (tickets ++ x ∷ [])
 draft-ticket s p i x tickets below under may h = record {
   sound = sound_from_kept n now intact (tickets-joined s now x refl may.ticket moved h.sound.tickets);
   buffers = alike s now refl refl refl refl refl h.buffers;
@@ -316,11 +379,17 @@ draft-ticket s p i x tickets below under may h = record {
     whole = kept_from_sound s h.sound
 
     free : (q j : ℕ) → q < n → j < 16 → (p ≡ q) ⊎ (p ≢ q) → (i ≡ j) ⊎ (i ≢ j) → IsFree now q j
-    free q j within inside (inr ne) _ z = get_or-set_other s.slots (source_number p i) (source_number q j) (Some x) None (λ same. other_place p i q j under inside (λ e. absurd (ne e)) (sym same))
+    free q j within inside (inr ne) _ z =
+        get_or-set_other s.slots (source_number p i) (source_number q j) (Some x) None
+        (λ same. other_place p i q j under inside (λ e. absurd (ne e)) (sym same))
         ∙ whole.empty q j within inside z
-    free q j within inside (inl e) (inr ne) z = get_or-set_other s.slots (source_number p i) (source_number q j) (Some x) None (λ same. other_place p i q j under inside (λ _. ne) (sym same))
+    free q j within inside (inl e) (inr ne) z =
+        get_or-set_other s.slots (source_number p i) (source_number q j) (Some x) None
+        (λ same. other_place p i q j under inside (λ _. ne) (sym same))
         ∙ whole.empty q j within inside z
-    free q j within inside (inl e) (inl f) z = let filled : is_slot_empty s q j ≡ false = (λ k. is_slot_empty s (sym e k) (sym f k)) ∙ may.occupied in absurd (grind (arith, nat_tests))
+    free q j within inside (inl e) (inl f) z =
+        let filled : is_slot_empty s q j ≡ false =
+        (λ k. is_slot_empty s (sym e k) (sym f k)) ∙ may.occupied in absurd (grind (arith, nat_tests))
 
     intact : IsIntact n now
     intact = record {
@@ -355,7 +424,8 @@ none-counted : {X : Type 0} (p : X → Bool) (xs : List X) → list_any p xs ≡
 none-counted p [] e = refl
 none-counted {X} p (x ∷ xs) e = by (p x) refl e (none-counted p xs)
   where
-    by : (b : Bool) → p x ≡ b → (b || list_any p xs) ≡ false → (list_any p xs ≡ false → count_by p xs ≡ 0) → count_by p (x ∷ xs) ≡ 0
+    by : (b : Bool) → p x ≡ b → (b || list_any p xs) ≡ false → (list_any p xs ≡ false → count_by p xs ≡ 0)
+        → count_by p (x ∷ xs) ≡ 0
     by true h e more = absurd (cc)
     by false h e more = omega (arith, sum_by-cons (λ y. cond (p y) 1 0) x xs, ap one_if h, more e)
 
@@ -365,9 +435,11 @@ none-found {X} p (x ∷ xs) e = by (p x) refl (none-found p xs)
   where
     by : (b : Bool) → p x ≡ b → (count_by p xs ≡ 0 → list_any p xs ≡ false) → list_any p (x ∷ xs) ≡ false
     by true h more = absurd (omega (arith, sum_by-cons (λ y. cond (p y) 1 0) x xs, ap one_if h, e))
-    by false h more = ap (λ b. b || list_any p xs) h ∙ more (omega (arith, sum_by-cons (λ y. cond (p y) 1 0) x xs, ap one_if h, e))
+    by false h more =
+        ap (λ b. b || list_any p xs) h ∙ more (omega (arith, sum_by-cons (λ y. cond (p y) 1 0) x xs, ap one_if h, e))
 
-pub loose-of : (s : State) (tickets : List ℕ) (t : ℕ) (r : Bool) → IsDraft s tickets → t < s.next_ticket → r ≡ list_any (λ y. y == t) tickets →
+pub loose-of : (s : State) (tickets : List ℕ) (t : ℕ) (r : Bool) → IsDraft s tickets → t < s.next_ticket
+    → r ≡ list_any (λ y. y == t) tickets →
     (IsTrue (not r) → IsUnplaced s t) × (IsUnplaced s t → IsTrue (not r))
 loose-of s tickets t r h given is = (forth, back)
   where
@@ -380,14 +452,16 @@ loose-of s tickets t r h given is = (forth, back)
     back loose = ap not (is ∙ none-found (λ y. y == t) tickets (h.listed t ∙ loose.nowhere))
 
 -- of messages in the order of tickets, the last one has the greatest
-pub in-order : (next : ℕ) (q : List Message) → Ascends next q → (o : Option Message) → slice_get q (length q - 1) ≡ o → (t : ℕ) →
+pub in-order : (next : ℕ) (q : List Message) → Ascends next q → (o : Option Message) → slice_get q (length q - 1) ≡ o
+    → (t : ℕ) →
     IsTrue (option_map_or (λ m. nat_lt (ticket_of m) t) o true) ↔ All (λ x. ticket_of x < t) q
 in-order next [] h None is t = (λ _. All-nil (λ x. ticket_of x < t), λ _. refl)
 in-order next [] h (Some m) is t = absurd (cc)
 in-order next (x ∷ []) h None is t = absurd (cc)
 in-order next (x ∷ []) h (Some m) is t =
     let same : ticket_of x ≡ ticket_of m = ap (λ (o : Option Message). option_map_or ticket_of o 0) is in (
-      λ low. All-cons (λ x. ticket_of x < t) x [] (grind (arith, nat_tests, same, low)) (All-nil (λ x. ticket_of x < t)),
+      λ low. All-cons (λ x. ticket_of x < t) x [] (grind (arith, nat_tests, same, low))
+          (All-nil (λ x. ticket_of x < t)),
       λ all. let first = All-head (λ x. ticket_of x < t) x [] all in grind (arith, nat_tests, same, first),
     )
 in-order next (x ∷ y ∷ q) h o is t =

@@ -41,14 +41,17 @@ none_auto v (suc n) = none_auto v n
 
 -- after reset no vector is auto-EOI
 pub auto-reset : auto_vectors reset_regs ≡ set.empty
-auto-reset = set.same_set nat_cmp_total nat_cmp-IsAntisymmetric _ _ (λ v. contains-auto_vectors reset_regs v ∙ none_auto v 16 ∙ sym (set.contains-empty nat_cmp v))
+auto-reset =
+    set.same_set nat_cmp_total nat_cmp-IsAntisymmetric _ _
+    (λ v. contains-auto_vectors reset_regs v ∙ none_auto v 16 ∙ sym (set.contains-empty nat_cmp v))
 
 -- no overlay is visible if all are disabled
 none-visible : (s : Space) (n page : ℕ) → s.registers ≡ replicate n 0 → visible s page ≡ None
 none-visible s n page e =
     let p : ℕ → Bool = is_mapped_at page in
     ap (λ rs. cond (nat_lt (prefix_len (λ r. not (p r)) rs) (length rs)) (Some (prefix_len (λ r. not (p r)) rs)) None) e
-    ∙ ap (λ b. cond b (Some (prefix_len (λ r. not (p r)) (replicate n 0))) None) (all_behind _ _ n (prefix_len-replicate (λ r. not (p r)) n 0 refl) (length-replicate n 0))
+    ∙ ap (λ b. cond b (Some (prefix_len (λ r. not (p r)) (replicate n 0))) None)
+    (all_behind _ _ n (prefix_len-replicate (λ r. not (p r)) n 0 refl) (length-replicate n 0))
   where
     all_behind : (i l n : ℕ) → i ≡ n → l ≡ n → nat_lt i l ≡ false
     all_behind i l n at long = grind (arith, nat_tests)
@@ -56,9 +59,11 @@ none-visible s n page e =
 owner-opened : (s : Space) (n page : ℕ) → s.registers ≡ replicate n 0 → page < length s.pages → owner_of s page ≡ Guest
 owner-opened s n page e h =
     let on : nat_lt page (page_count s) ≡ true = grind (arith, nat_tests) in
-    ap (λ b. if b then option_map_or overlay_owner (visible s page) Guest else Nothing) on ∙ ap (λ o. option_map_or overlay_owner o Guest) (none-visible s n page e)
+    ap (λ b. if b then option_map_or overlay_owner (visible s page) Guest else Nothing) on
+    ∙ ap (λ o. option_map_or overlay_owner o Guest) (none-visible s n page e)
 
-owners-opened : (s : Space) (n k : ℕ) → s.registers ≡ replicate n 0 → length s.pages ≡ k → replicate k Guest ≡ owners_of s
+owners-opened : (s : Space) (n k : ℕ) → s.registers ≡ replicate n 0 → length s.pages ≡ k
+    → replicate k Guest ≡ owners_of s
 owners-opened s n k e l =
     fill_by_all (owner_of s) (replicate k Guest) (length s.pages) Guest (length-replicate k Guest ∙ sym l)
     (λ i h. get_or-replicate k i Guest Guest (omega arith) ∙ sym (owner-opened s n i e h))
@@ -68,27 +73,35 @@ none_below : (n k : ℕ) → least_below (dues (no_timers n)) k ≡ None
 unfolding least_below
 none_below n zero = refl
 none_below n (suc k) =
-    ap (λ o. option_map_or (λ d. Some (earlier (least_below (dues (no_timers n)) k) (d, k))) o (least_below (dues (no_timers n)) k)) (dues-opened n k) ∙ none_below n k
+    ap (λ o. option_map_or (λ d. Some (earlier (least_below (dues (no_timers n)) k) (d, k))) o
+    (least_below (dues (no_timers n)) k)) (dues-opened n k) ∙ none_below n k
 
 none-due : (n : ℕ) → least (dues (no_timers n)) ≡ None
 unfolding least
 none-due n = ap (option_map (λ (r : ℕ × ℕ). (r.0, timer_of r.1))) (none_below n (length (dues (no_timers n))))
 
 -- the cached summary when a board is opened
-pub summary_of-opened : (n pages ticket : ℕ) (v : Values) → v.nexts ≡ replicate n None → v.autos ≡ replicate n set.empty → v.owners ≡ replicate pages Guest →
+pub summary_of-opened : (n pages ticket : ℕ) (v : Values) → v.nexts ≡ replicate n None
+    → v.autos ≡ replicate n set.empty → v.owners ≡ replicate pages Guest →
     v.queued ≡ replicate (16 * n) 0 → v.earliest ≡ None → v ≡ summary_of (opened n pages ticket)
 summary_of-opened n pages ticket v nexts autos owners queued earliest =
     let s = opened n pages ticket in
-    let a : v.nexts ≡ map next s.apics = nexts ∙ ap (replicate n) (sym next-empty) ∙ sym (map-replicate next n empty_apic) in
-    let b : v.autos ≡ map auto_vectors s.regs = autos ∙ ap (replicate n) (sym auto-reset) ∙ sym (map-replicate auto_vectors n reset_regs) in
-    let c : v.owners ≡ owners_of (space_of s) = owners ∙ owners-opened (space_of s) (2 * n) pages (overlays-opened n) (length-replicate pages _) in
+    let a : v.nexts ≡ map next s.apics =
+    nexts ∙ ap (replicate n) (sym next-empty) ∙ sym (map-replicate next n empty_apic) in
+    let b : v.autos ≡ map auto_vectors s.regs =
+    autos ∙ ap (replicate n) (sym auto-reset) ∙ sym (map-replicate auto_vectors n reset_regs) in
+    let c : v.owners ≡ owners_of (space_of s) =
+    owners ∙ owners-opened (space_of s) (2 * n) pages (overlays-opened n) (length-replicate pages _) in
     let d : v.queued ≡ map length s.queues = queued ∙ sym (map-replicate length (16 * n) []) in
     let e : v.earliest ≡ least (dues (bank_of s)) = earliest ∙ sym (none-due n) in
     (λ i. record { nexts = a i; autos = b i; owners = c i; queued = d i; earliest = e i })
 
 -- the state of the fields of a newly opened board
-pub state-opened : (n pages ticket : ℕ) (apics : List Apic) (regs : List Regs) (space : Space) (ports : Ports) (queues : Queues) (slots : List (Option ℕ)) (bank : Bank) →
-    apics ≡ replicate n empty_apic → regs ≡ replicate n reset_regs → space ≡ opened_space n pages → ports ≡ no_ports n (nat_eq pages 0) → queues ≡ no_messages n → slots ≡ replicate (16 * n) None → bank ≡ no_timers n →
+pub state-opened : (n pages ticket : ℕ) (apics : List Apic) (regs : List Regs) (space : Space) (ports : Ports)
+    (queues : Queues) (slots : List (Option ℕ)) (bank : Bank) →
+    apics ≡ replicate n empty_apic → regs ≡ replicate n reset_regs → space ≡ opened_space n pages
+    → ports ≡ no_ports n (nat_eq pages 0) → queues ≡ no_messages n → slots ≡ replicate (16 * n) None
+    → bank ≡ no_timers n →
     record {
       moment = 0;
       next_ticket = ticket;

@@ -11,7 +11,8 @@ use Rattle.synic_board.specs.Performing.{Performs}
 use Rattle.synic_board.proofs.keeping.Steps.{conserves, tickets_monotone}
 use Rattle.synic_board.proofs.keeping.Buffers.{bound-emitted}
 
-pub performs : (old now : BoardModel) (event : Event) (reply : Reply) (notices : List Notice) → PayloadFits event → (now.state, reply, notices) ≡ step old.state event →
+pub performs : (old now : BoardModel) (event : Event) (reply : Reply) (notices : List Notice) → PayloadFits event
+    → (now.state, reply, notices) ≡ step old.state event →
     IsSound old.state → HasBuffers old.state
     → old.writes ≤ now.writes → now.writes ≤ old.writes + (8 + length notices) → Performs old event now reply notices
 performs old now event reply notices fits is sound buffers monotone bound = record {

@@ -21,13 +21,15 @@ bytes_in (Post _ _ payload) = payload
 bytes_in (Store _ bytes) = bytes
 bytes_in _ = record { items = [] }
 
-same-post : (port kind : ℕ) (payload : ArrayVec ℕ) (event : Event) → ghosts.eq (Post port kind payload) event ≡ true → Post port kind payload ≡ event
+same-post : (port kind : ℕ) (payload : ArrayVec ℕ) (event : Event) → ghosts.eq (Post port kind payload) event ≡ true
+    → Post port kind payload ≡ event
 same-post port kind payload event e =
     let is : event ≡ Post port kind (bytes_in event) = grind (arith, nat_tests) in
     let holds = subst (λ o. ghosts.eq (Post port kind payload) o ≡ true) is e in
     ap (Post port kind) (same-bytes payload (bytes_in event) (last-holds _ _ (last-holds _ _ holds))) ∙ sym is
 
-same-store : (address : ℕ) (bytes : ArrayVec ℕ) (event : Event) → ghosts.eq (Store address bytes) event ≡ true → Store address bytes ≡ event
+same-store : (address : ℕ) (bytes : ArrayVec ℕ) (event : Event) → ghosts.eq (Store address bytes) event ≡ true
+    → Store address bytes ≡ event
 same-store address bytes event e =
     let is : event ≡ Store address (bytes_in event) = grind (arith, nat_tests) in
     let holds = subst (λ o. ghosts.eq (Store address bytes) o ≡ true) is e in

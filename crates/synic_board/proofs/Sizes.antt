@@ -9,7 +9,8 @@ use Rattle.synic_board.specs.Summaries.{summary_of, HasSizes}
 use Rattle.synic_board.specs.inside.View.{state_of, MachineInvariant}
 use Rattle.synic_board.proofs.Overlays.{length-owners}
 
-pub has_sizes : (b : Inside) → MachineInvariant b → HasSizes (processors (state_of b)) (length (state_of b).pages) (summary_of (state_of b))
+pub has_sizes : (b : Inside) → MachineInvariant b
+    → HasSizes (processors (state_of b)) (length (state_of b).pages) (summary_of (state_of b))
 has_sizes b kept = record {
   nexts = length-map b.lapics.items next;
   autos = length-map b.regs.items auto_vectors ∙ kept.registers;

@@ -23,11 +23,18 @@ pub record IsNext (many bits behind skipped : ℕ) : Type 0 where
   pub set : bit_at bits (behind + skipped) ≡ 1
   pub clear : (j : ℕ) → j < skipped → bit_at bits (behind + j) ≡ 0
 
-pub next-bit : (w : Width) (many word left behind : ℕ) → word < 2 ^ many → left ≡ word / 2 ^ behind → 0 < left → left < 2 ^ bits w → IsNext many word behind (trailing_zeros w left)
+pub next-bit : (w : Width) (many word left behind : ℕ) → word < 2 ^ many → left ≡ word / 2 ^ behind → 0 < left
+    → left < 2 ^ bits w → IsNext many word behind (trailing_zeros w left)
 next-bit w many word left behind fits is some small =
     let h = bit_at-trailing_zeros w left some small in
-    let set : bit_at word (behind + trailing_zeros w left) ≡ 1 = sym (bit_at-left word behind (trailing_zeros w left)) ∙ ap (λ n. bit_at n (trailing_zeros w left)) (sym is) ∙ h.1 in
-    record { inside = inside set (cases_lt (behind + trailing_zeros w left) many); set = set; clear = λ j below. sym (bit_at-left word behind j) ∙ ap (λ n. bit_at n j) (sym is) ∙ h.2 j below }
+    let set : bit_at word (behind + trailing_zeros w left) ≡ 1 =
+    sym (bit_at-left word behind (trailing_zeros w left)) ∙ ap (λ n. bit_at n (trailing_zeros w left)) (sym is)
+    ∙ h.1 in
+    record {
+      inside = inside set (cases_lt (behind + trailing_zeros w left) many);
+      set = set;
+      clear = λ j below. sym (bit_at-left word behind j) ∙ ap (λ n. bit_at n j) (sym is) ∙ h.2 j below;
+    }
   where
     inside : {k : ℕ} → bit_at word k ≡ 1 → (k < many) ⊎ (many ≤ k) → k < many
     inside e (inl below) = below

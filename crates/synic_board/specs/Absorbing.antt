@@ -19,7 +19,8 @@ absorbed_bit s p part bits i = if is_posted part bits i then requested s p (64 *
 -- the vectors of the bits below n, smallest first
 unfoldable pub absorbed_below : State → Processor → ℕ → ℕ → ℕ → Effect
 absorbed_below s p part bits zero = nothing s
-absorbed_below s p part bits (suc i) = after (absorbed_below s p part bits i) (absorbed_bit (absorbed_below s p part bits i).0 p part bits i)
+absorbed_below s p part bits (suc i) =
+    after (absorbed_below s p part bits i) (absorbed_bit (absorbed_below s p part bits i).0 p part bits i)
 
 -- there are four parts of 64 vectors
 abbrev pub absorbed : State → Processor → ℕ → ℕ → Outcome

@@ -1,4 +1,5 @@
--- The invariant of the queues and ports: each owner stays within its buffers, and each message is in a queue that its owner may post to, in the order of tickets.
+-- The invariant of the queues and ports: each owner stays within its buffers, and each message is in a queue that its
+-- owner may post to, in the order of tickets.
 use Rattle.std.specs.Prelude.{◌≡◌, ◌≤◌, ◌<◌, ℕ, true, List, length, slice_index_or, Option, None, Some}
 use Rattle.std.specs.List.{All}
 use Rattle.board_terms.specs.declared.messages.Message.{Message}
@@ -13,9 +14,11 @@ use Rattle.synic_board.specs.Timed.{IsTimed}
 
 -- a port of a board is open for messages to source i of processor p, with some number of buffers
 abbrev pub SendsTo : List (Option Port) → ℕ → ℕ → ℕ → Type 0
-SendsTo ports port p i = (buffers : ℕ) × (slice_index_or ports port None ≡ Some (record { vp = p; sint = i; shape = Messages buffers }))
+SendsTo ports port p i =
+    (buffers : ℕ) × (slice_index_or ports port None ≡ Some (record { vp = p; sint = i; shape = Messages buffers }))
 
--- a message that may be queued at source i of processor p: it has the type of a post and is from a port that sends there, or it is from one of the four timers of p
+-- a message that may be queued at source i of processor p: it has the type of a post and is from a port that sends
+-- there, or it is from one of the four timers of p
 abbrev pub IsHome : List (Option Port) → ℕ → ℕ → Message → Type 0
 IsHome ports p i (FromPort ticket port kind payload) = (is_posted_type kind ≡ true) × SendsTo ports port p i
 IsHome ports p i (FromTimer ticket t expiration) = (t.0 ≡ p) × (t.1 < 4)

@@ -49,7 +49,8 @@ placed s p i = placed_head s p i (queue_of s.queues p i)
 
 -- MessagePending is set in an occupied slot, with a notice if it was clear
 abbrev pub marked : State → Processor → Source → Effect
-marked s p i = (with_space s (after_pending (space_of s) p i), if is_pending (space_of s) p i then [] else Pending p i ∷ [])
+marked s p i =
+    (with_space s (after_pending (space_of s) p i), if is_pending (space_of s) p i then [] else Pending p i ∷ [])
 
 -- a delivery attempt
 unfoldable pub tried : State → Processor → Source → Effect
@@ -65,7 +66,8 @@ tried_below s p (suc i) = after (tried_below s p i) (tried (tried_below s p i).0
 
 -- a message gets the next ticket and joins the end of its queue
 abbrev pub accepted : State → Processor → Source → Message → Effect
-accepted s p i m = (record s { queues = joined s.queues p i m; next_ticket = s.next_ticket + 1 }, Accepted p i (ticket_of m) ∷ [])
+accepted s p i m =
+    (record s { queues = joined s.queues p i m; next_ticket = s.next_ticket + 1 }, Accepted p i (ticket_of m) ∷ [])
 
 -- accepted, then tried
 abbrev pub delivered : State → Processor → Source → Message → Effect

@@ -30,7 +30,8 @@ given t s now = if nat_le s.next_ticket t && nat_lt t now.next_ticket then 1 els
 
 -- each accepted message is queued, in a slot, consumed or withdrawn, exactly once
 abbrev pub Conserves : State → State → List Notice → Type 0
-Conserves s now notices = (t : ℕ) → times t (locations now) + times_ended t notices ≡ times t (locations s) + given t s now
+Conserves s now notices =
+    (t : ℕ) → times t (locations now) + times_ended t notices ≡ times t (locations s) + given t s now
 
 -- a ticket is in at most one place, and only given tickets are
 pub record AreTickets (s : State) : Type 0 where

@@ -9,7 +9,8 @@ use Rattle.synic_board.specs.Locations.{Conserves}
 use Rattle.synic_board.specs.Step.{step}
 
 -- A board performs an event: what it is then, its reply, and its notices.
-pub record Performs (old : BoardModel) (event : Event) (now : BoardModel) (reply : Reply) (notices : List Notice) : Type 0 where
+pub record Performs (old : BoardModel) (event : Event) (now : BoardModel) (reply : Reply)
+    (notices : List Notice) : Type 0 where
   -- the outcome is that of the reference model
   pub step : (now.state, reply, notices) ≡ step old.state event
   -- each accepted message is queued, in a slot, consumed or withdrawn, exactly once

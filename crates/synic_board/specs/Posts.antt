@@ -70,7 +70,8 @@ posted_at s port kind payload (Ok p) =
 abbrev pub posted : State → PortNumber → ℕ → ArrayVec ℕ → Outcome
 posted s port kind payload = posted_at s port kind payload (message_target_of (ports_of s) port kind)
 
--- an event flag is set, and its source raises its vector if the flag was clear; the page is written even if it is obscured
+-- an event flag is set, and its source raises its vector if the flag was clear; the page is written even if it is
+-- obscured
 abbrev pub with_flag : State → Processor → Source → Flag → State
 with_flag s p i flag = with_space s (after_flag (space_of s) p i flag)
 

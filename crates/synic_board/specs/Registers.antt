@@ -17,7 +17,9 @@ use Rattle.synic_board.specs.Timers.{written_timer}
 
 -- a register that stores what is written; a source with a vector below 16 must be masked
 abbrev pub stored : State → Processor → Register → Word → Outcome
-stored s p r value = if is_refused r value then unchanged s GeneralProtection else unchanged (with_regs s p (with_value (regs_of s p) r value)) Done
+stored s p r value =
+    if is_refused r value then unchanged s GeneralProtection
+    else unchanged (with_regs s p (with_value (regs_of s p) r value)) Done
 
 -- EOM tries each source, in order
 abbrev pub scanned : State → Processor → Outcome
@@ -38,7 +40,8 @@ written_register s p (TimerConfig n) value = written_timer s (with_config (bank_
 written_register s p (TimerCount n) value = written_timer s (with_count (bank_of s) (p, n) value s.moment) (p, n)
 
 abbrev pub written : State → Processor → RegisterNumber → Word → Outcome
-written s p number value = option_map_or (λ r. written_register s p r value) (register_of number) (unchanged s GeneralProtection)
+written s p number value =
+    option_map_or (λ r. written_register s p r value) (register_of number) (unchanged s GeneralProtection)
 
 -- a read of each register
 abbrev pub read_register : State → Processor → Register → Reply

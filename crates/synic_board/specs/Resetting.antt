@@ -22,7 +22,10 @@ slot_emptied s p i = option_map_or (withdrawn_ticket s p i) (slot_of s p i) (not
 
 -- and those in a queue, front first
 abbrev pub queue_emptied : State → Processor → Source → Effect
-queue_emptied s p i = (record s { queues = with_queue s.queues p i [] }, map (λ t. Withdrawn p i t) (map ticket_of (queue_of s.queues p i)))
+queue_emptied s p i = (
+  record s { queues = with_queue s.queues p i [] },
+  map (λ t. Withdrawn p i t) (map ticket_of (queue_of s.queues p i)),
+)
 
 -- the slot of a source, and then its queue
 abbrev pub source_emptied : State → Processor → Source → Effect
@@ -33,7 +36,8 @@ unfoldable pub emptied_below : State → Processor → ℕ → Effect
 emptied_below s p zero = nothing s
 emptied_below s p (suc i) = after (emptied_below s p i) (source_emptied (emptied_below s p i).0 p i)
 
--- the local APIC, the registers, both own pages and the timers are those of a newly opened processor; ports, guest pages and the clock stay
+-- the local APIC, the registers, both own pages and the timers are those of a newly opened processor; ports, guest
+-- pages and the clock stay
 abbrev pub cleared : State → Processor → State
 cleared s p =
     let apic = with_apic s p empty_apic in

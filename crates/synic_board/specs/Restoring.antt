@@ -41,10 +41,12 @@ with_saved_timer s t x = with_bank s (with_timer (bank_of s) t x)
 
 -- bytes of an own page or a guest page, from an offset on
 abbrev pub with_own_bytes : State → Processor → Kind → ℕ → List ℕ → State
-with_own_bytes s p kind at bytes = with_space s (with_own_page (space_of s) p kind (overwritten (own_page (space_of s) p kind) at bytes))
+with_own_bytes s p kind at bytes =
+    with_space s (with_own_page (space_of s) p kind (overwritten (own_page (space_of s) p kind) at bytes))
 
 abbrev pub with_guest_bytes : State → PageNumber → ℕ → List ℕ → State
-with_guest_bytes s page at bytes = with_space s (with_guest_page (space_of s) page (overwritten (slice_index_or s.pages page []) at bytes))
+with_guest_bytes s page at bytes =
+    with_space s (with_guest_page (space_of s) page (overwritten (slice_index_or s.pages page []) at bytes))
 
 -- a message at the end of its queue
 abbrev pub with_message : State → Processor → Source → Message → State

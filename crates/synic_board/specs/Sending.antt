@@ -1,4 +1,5 @@
--- One interrupt sent to several processors (SDM volume 3, "Issuing Interprocessor Interrupts"; TLFS, HvCallSendSyntheticClusterIpi).
+-- One interrupt sent to several processors (SDM volume 3, "Issuing Interprocessor Interrupts"; TLFS,
+-- HvCallSendSyntheticClusterIpi).
 use Rattle.std.specs.Prelude.{ℕ, zero, suc, ◌^◌, ◌==◌, nat_lt, if◌then◌else◌}
 use Rattle.std.specs.Int.{bit_at}
 use Rattle.board_terms.specs.Quantities.{Processor, Vector, Word}
@@ -19,4 +20,5 @@ sent_below s v mask (suc p) = after (sent_below s v mask p) (sent_to (sent_below
 
 -- a mask with a bit of a processor that is not on the board is refused
 abbrev pub sent : State → Vector → Word → Outcome
-sent s v mask = if nat_lt mask (2 ^ processors s) then answered Done (sent_below s v mask 64) else refused s NoSuchProcessor
+sent s v mask =
+    if nat_lt mask (2 ^ processors s) then answered Done (sent_below s v mask 64) else refused s NoSuchProcessor

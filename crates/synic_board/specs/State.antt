@@ -95,7 +95,8 @@ pub record AreSizes (processors pages : ℕ) : Type 0 where
   pub some_page : 1 ≤ pages
   pub page_bound : pages ≤ 64
 
--- the sizes of any board: at most 64 processors, and at most eight on one that is not sparse and so holds its guest pages
+-- the sizes of any board: at most 64 processors, and at most eight on one that is not sparse and so holds its guest
+-- pages
 pub record IsWithinLimits (processors pages : ℕ) : Type 0 where
   pub some_processor : 1 ≤ processors
   pub processor_bound : processors ≤ 64

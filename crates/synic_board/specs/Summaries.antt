@@ -34,7 +34,14 @@ abbrev pub owners_of : Space → List Owner
 owners_of s = map (owner_of s) (range_with_len 0 (length s.pages))
 
 abbrev pub summary_of : State → Values
-summary_of s = record { nexts = map next s.apics; autos = map auto_vectors s.regs; owners = owners_of (space_of s); queued = map length s.queues; earliest = least (dues (bank_of s)) }
+summary_of s =
+    record {
+      nexts = map next s.apics;
+      autos = map auto_vectors s.regs;
+      owners = owners_of (space_of s);
+      queued = map length s.queues;
+      earliest = least (dues (bank_of s));
+    }
 
 -- a summary for that many processors and pages
 pub record HasSizes (processors pages : ℕ) (values : Values) : Type 0 where

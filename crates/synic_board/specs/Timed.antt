@@ -1,4 +1,5 @@
--- The invariant of what a board queues and counts down: queues are in the order of tickets, and no timer is further ahead than its period.
+-- The invariant of what a board queues and counts down: queues are in the order of tickets, and no timer is further
+-- ahead than its period.
 use Rattle.std.specs.Prelude.{◌≡◌, ◌≤◌, ◌<◌, ◌+◌, ◌%◌, ℕ, true, List, [], ◌∷◌, Some, slice_index_or}
 use Rattle.std.specs.List.{All}
 use Rattle.board_terms.specs.Messages.{ticket_of}

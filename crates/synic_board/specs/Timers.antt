@@ -1,4 +1,5 @@
--- Writing and trying timers, and the clock (TLFS, "Synthetic Timers"; the rules for late and lazy timers are choices of this profile).
+-- Writing and trying timers, and the clock (TLFS, "Synthetic Timers"; the rules for late and lazy timers are choices
+-- of this profile).
 use Rattle.std.specs.Prelude.{ℕ, zero, suc, Bool, true, ◌==◌, ◌&&◌, nat_lt, List, [], ◌∷◌, ◌++◌, Option, if◌then◌else◌}
 use Rattle.std.specs.Option.{option_map_or}
 use Rattle.board_terms.specs.Quantities.{TimerId, Moment}
@@ -73,7 +74,8 @@ attempted s t = if is_ready s t then fired s t (mode_at s t) else nothing s
 unfoldable pub attempted_until : ℕ → State → List TimerId → Effect
 attempted_until zero s ts = nothing s
 attempted_until (suc n) s [] = nothing s
-attempted_until (suc n) s (t ∷ ts) = after (attempted s t) (attempted_until (if is_ready s t then n else suc n) (attempted s t).0 ts)
+attempted_until (suc n) s (t ∷ ts) =
+    after (attempted s t) (attempted_until (if is_ready s t then n else suc n) (attempted s t).0 ts)
 
 -- a timer that is written is tried once, if it is due then
 abbrev pub written_timer : State → Bank → TimerId → Outcome

@@ -174,7 +174,9 @@ impl Draft {
     pub fn set_timer(&mut self, timer: TimerId, config: u64, count: u64, due: Option<u128>) -> bool
         requires { timer.0 < processors self.old }
         ensures valid { IsTrue result ↔ MayCount self.old (record { config = config; count = count; due = due }) }
-        ensures restored { self.new ≡ (if result then with_saved_timer self.old timer (record { config = config; count = count; due = due }) else self.old) }
+        ensures restored { self.new
+            ≡ (if result then with_saved_timer self.old timer (record { config = config; count = count; due = due })
+            else self.old) }
     {
         is_near(self.machine.moment(), config, count, due)
             && self.machine.restore_timer(timer, config, count, due)
@@ -184,7 +186,8 @@ impl Draft {
     pub fn push_message(&mut self, vp: Vp, sint: Sint, message: Message) -> Result<bool, AllocError>
         requires { vp < processors self.old }
         ensures valid { IfOk result (λ taken. IsTrue taken ↔ MayJoin self.old vp sint message) }
-        ensures restored { IfOk result (λ taken. self.new ≡ (if taken then with_message self.old vp sint message else self.old)) }
+        ensures restored { IfOk result
+            (λ taken. self.new ≡ (if taken then with_message self.old vp sint message else self.old)) }
         ensures err { OnErr result (self.new ≡ self.old) }
     {
         if !self.may_join(vp, sint, &message) {
@@ -199,7 +202,8 @@ impl Draft {
     pub fn set_ticket(&mut self, vp: Vp, sint: Sint, ticket: Ticket) -> Result<bool, AllocError>
         requires { vp < processors self.old }
         ensures valid { IfOk result (λ taken. IsTrue taken ↔ MayOccupy self.old vp sint ticket) }
-        ensures restored { IfOk result (λ taken. self.new ≡ (if taken then with_slot_ticket self.old vp sint (Some ticket) else self.old)) }
+        ensures restored { IfOk result
+            (λ taken. self.new ≡ (if taken then with_slot_ticket self.old vp sint (Some ticket) else self.old)) }
         ensures err { OnErr result (self.new ≡ self.old) }
     {
         if !self.may_occupy(vp, sint, ticket) {

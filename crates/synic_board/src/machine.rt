@@ -229,7 +229,8 @@ impl Machine {
         notices: &mut Notices,
     ) -> Reply
         requires { length payload.now ≤ 240 }
-        ensures step { (self.new.state, result, notices.new) ≡ step self.old.state (Post port kind (record { items = payload.now })) }
+        ensures step { (self.new.state, result, notices.new)
+            ≡ step self.old.state (Post port kind (record { items = payload.now })) }
         ensures writes_monotone { self.old.writes ≤ self.new.writes }
         ensures bound { self.new.writes ≤ self.old.writes + length notices.new }
     {
@@ -247,7 +248,8 @@ impl Machine {
         notices: &mut Notices,
     ) -> Reply
         requires { IsSound self.old.state }
-        ensures step { (self.new.state, result, notices.new) ≡ step self.old.state (Store address (record { items = bytes.now })) }
+        ensures step { (self.new.state, result, notices.new)
+            ≡ step self.old.state (Store address (record { items = bytes.now })) }
         ensures writes { self.new.writes ≡ self.old.writes }
     {
         notices.clear();

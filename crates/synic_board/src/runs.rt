@@ -27,14 +27,17 @@ pub fn run(
     events: &[Event],
     notices: &mut Vec<Notice>,
 ) -> Result<Vec<Reply>, Stopped>
-    ensures all { IfOk result (λ replies. (board.new.state, replies.items, notices.new.items) ≡ with_earlier_notices notices.old.items (run_of board.old.state events.now)) }
+    ensures all { IfOk result
+        (λ replies. (board.new.state, replies.items, notices.new.items)
+        ≡ with_earlier_notices notices.old.items (run_of board.old.state events.now)) }
     ensures stopped { IfErr result (λ stopped. (board.new.state, stopped.replies.items, notices.new.items)
         ≡ with_earlier_notices notices.old.items (run_of board.old.state (take stopped.done events.now))) }
     ensures within { IfErr result (λ stopped. stopped.done < length events.now) }
     ensures conserves { Conserves board.old.state board.new.state (drop (length notices.old.items) notices.new.items) }
     ensures tickets_monotone { board.old.state.next_ticket ≤ board.new.state.next_ticket }
     ensures writes_monotone { board.old.writes ≤ board.new.writes }
-    ensures bound { board.new.writes + length notices.old.items ≤ board.old.writes + 8 * length events.now + length notices.new.items }
+    ensures bound { board.new.writes + length notices.old.items
+        ≤ board.old.writes + 8 * length events.now + length notices.new.items }
 {
     let mut replies = Vec::new(alloc);
     let done = perform_all(alloc, board, events, &mut replies, notices);
@@ -56,9 +59,11 @@ fn perform_all(
 ) -> usize
     requires none { replies.old.items ≡ [] }
     ensures within { result ≤ length events.now }
-    ensures behind { HasPerformed board.old.state events.now result notices.old.items board.new.state replies.new.items notices.new.items }
+    ensures behind { HasPerformed board.old.state events.now result notices.old.items board.new.state
+        replies.new.items notices.new.items }
     ensures writes_monotone { board.old.writes ≤ board.new.writes }
-    ensures bound { board.new.writes + length notices.old.items ≤ board.old.writes + 8 * result + length notices.new.items }
+    ensures bound { board.new.writes + length notices.old.items
+        ≤ board.old.writes + 8 * result + length notices.new.items }
 {
     let Ok(mut emitted) = Notices::open(alloc) else {
         return 0;

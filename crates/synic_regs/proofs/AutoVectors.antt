@@ -24,9 +24,12 @@ contains-auto_eoi_of : (sints : List ℕ) (v : ℕ) → set.contains (auto_eoi_o
 unfolding auto_eoi_of
 contains-auto_eoi_of sints v =
     contains-numbers_where (λ v. list_any (is_auto_source v) sints) 256 v
-    ∙ (elim (nat_lt v 256) as (λ b. nat_lt v 256 ≡ b → (b && list_any (is_auto_source v) sints) ≡ list_any (is_auto_source v) sints) [
+    ∙ (elim (nat_lt v 256) as
+    (λ b. nat_lt v 256 ≡ b → (b && list_any (is_auto_source v) sints) ≡ list_any (is_auto_source v) sints) [
       | true ↦ λ e. refl
-      | false ↦ λ e. sym (list_any_none (is_auto_source v) sints (λ k d h. above_none v (get_or sints k d) (grind (arith, nat_tests))))
+      | false ↦ λ e.
+          sym (list_any_none (is_auto_source v) sints
+          (λ k d h. above_none v (get_or sints k d) (grind (arith, nat_tests))))
     ] refl)
 
 -- a vector is auto-EOI iff some source makes it so
@@ -42,34 +45,44 @@ abbrev pub with_found : Vectors → Option ℕ → Vectors
 with_found s o = option_map_or (λ v. set.insert s v) o s
 
 contains-with_found : (s : Vectors) (auto silent : Bool) (v q : ℕ) →
-    set.contains (with_found s (if auto then (if silent then None else Some v) else None)) q ≡ (set.contains s q || (auto && not silent && (v == q)))
+    set.contains (with_found s (if auto then (if silent then None else Some v) else None)) q
+    ≡ (set.contains s q || (auto && not silent && (v == q)))
 contains-with_found s true true v q = grind (arith, nat_tests)
 contains-with_found s true false v q = set.contains-insert nat_cmp_total s v q ∙ grind (arith, nat_tests)
 contains-with_found s false silent v q = grind (arith, nat_tests)
 
 -- one more source
-pub auto_eoi_of-more : (sints : List ℕ) (i : ℕ) → i < length sints → auto_eoi_of (take (i + 1) sints) ≡ with_found (auto_eoi_of (take i sints)) (auto_of_word (get_or sints i 0))
+pub auto_eoi_of-more : (sints : List ℕ) (i : ℕ) → i < length sints
+    → auto_eoi_of (take (i + 1) sints) ≡ with_found (auto_eoi_of (take i sints)) (auto_of_word (get_or sints i 0))
 auto_eoi_of-more sints i h =
     set.same_set nat_cmp_total nat_cmp-IsAntisymmetric _ _ (λ q.
     contains-auto_eoi_of (take (i + 1) sints) q
     ∙ list_any_more (is_auto_source q) sints i 0 h
     ∙ ap (λ b. b || is_auto_source q (get_or sints i 0)) (sym (contains-auto_eoi_of (take i sints) q))
-    ∙ sym (contains-with_found (auto_eoi_of (take i sints)) (has (get_or sints i 0) auto_eoi) (is_silent (get_or sints i 0)) (vector_of (get_or sints i 0)) q))
+    ∙ sym (contains-with_found (auto_eoi_of (take i sints)) (has (get_or sints i 0) auto_eoi)
+    (is_silent (get_or sints i 0)) (vector_of (get_or sints i 0)) q))
 
 pub auto_eoi_of-none : auto_eoi_of [] ≡ set.empty
-auto_eoi_of-none = set.same_set nat_cmp_total nat_cmp-IsAntisymmetric _ _ (λ q. contains-auto_eoi_of [] q ∙ sym (set.contains-empty nat_cmp q))
+auto_eoi_of-none =
+    set.same_set nat_cmp_total nat_cmp-IsAntisymmetric _ _
+    (λ q. contains-auto_eoi_of [] q ∙ sym (set.contains-empty nat_cmp q))
 
-pub more_found : (sints : List ℕ) (i : ℕ) (auto now : Vectors) (word v : ℕ) (o : Option ℕ) → auto ≡ auto_eoi_of (take i sints) → i < length sints →
-    word ≡ get_or sints i 0 → o ≡ auto_of_word word → o ≡ Some v → now ≡ set.insert auto v → now ≡ auto_eoi_of (take (i + 1) sints)
+pub more_found : (sints : List ℕ) (i : ℕ) (auto now : Vectors) (word v : ℕ) (o : Option ℕ)
+    → auto ≡ auto_eoi_of (take i sints) → i < length sints →
+    word ≡ get_or sints i 0 → o ≡ auto_of_word word → o ≡ Some v → now ≡ set.insert auto v
+    → now ≡ auto_eoi_of (take (i + 1) sints)
 more_found sints i auto now word v o so_far h same found is put =
     let e : auto_of_word (get_or sints i 0) ≡ Some v = ap auto_of_word (sym same) ∙ sym found ∙ is in
-    put ∙ ap (λ s. set.insert s v) so_far ∙ ap (with_found (auto_eoi_of (take i sints))) (sym e) ∙ sym (auto_eoi_of-more sints i h)
+    put ∙ ap (λ s. set.insert s v) so_far ∙ ap (with_found (auto_eoi_of (take i sints))) (sym e)
+    ∙ sym (auto_eoi_of-more sints i h)
 
-pub more_none : (sints : List ℕ) (i : ℕ) (auto now : Vectors) (word : ℕ) (o : Option ℕ) → auto ≡ auto_eoi_of (take i sints) → i < length sints →
+pub more_none : (sints : List ℕ) (i : ℕ) (auto now : Vectors) (word : ℕ) (o : Option ℕ)
+    → auto ≡ auto_eoi_of (take i sints) → i < length sints →
     word ≡ get_or sints i 0 → o ≡ auto_of_word word → o ≡ None → now ≡ auto → now ≡ auto_eoi_of (take (i + 1) sints)
 more_none sints i auto now word o so_far h same found is kept =
     let e : auto_of_word (get_or sints i 0) ≡ None = ap auto_of_word (sym same) ∙ sym found ∙ is in
     kept ∙ so_far ∙ ap (with_found (auto_eoi_of (take i sints))) (sym e) ∙ sym (auto_eoi_of-more sints i h)
 
-pub all_of_them : (sints : List ℕ) (i n : ℕ) (auto : Vectors) → length sints ≡ n → n ≤ i → auto ≡ auto_eoi_of (take i sints) → auto ≡ auto_eoi_of sints
+pub all_of_them : (sints : List ℕ) (i n : ℕ) (auto : Vectors) → length sints ≡ n → n ≤ i
+    → auto ≡ auto_eoi_of (take i sints) → auto ≡ auto_eoi_of sints
 all_of_them sints i n auto len h so_far = so_far ∙ ap auto_eoi_of (take_all i sints (omega arith))

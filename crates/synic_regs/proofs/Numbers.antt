@@ -10,14 +10,17 @@ abbrev Denotes : ℕ → Register → Type 0
 Denotes n r = Exists r × (number_of_register r ≡ n)
 
 -- the result is the first register, or that of the remaining cases
-judged : (b : Bool) (x : Register) (rest : Option Register) (r : Register) (P : Type 0) → (if b then Some x else rest) ≡ Some r → (b ≡ true → x ≡ r → P) → (b ≡ false → rest ≡ Some r → P) → P
+judged : (b : Bool) (x : Register) (rest : Option Register) (r : Register) (P : Type 0)
+    → (if b then Some x else rest) ≡ Some r → (b ≡ true → x ≡ r → P) → (b ≡ false → rest ≡ Some r → P) → P
 judged true x rest r P h first later = first refl (cc)
 judged false x rest r P h first later = later refl h
 
-fixed : (n number : ℕ) (x : Register) (r : Register) → Exists x → number_of_register x ≡ number → (n == number) ≡ true → x ≡ r → Denotes n r
+fixed : (n number : ℕ) (x : Register) (r : Register) → Exists x → number_of_register x ≡ number → (n == number) ≡ true
+    → x ≡ r → Denotes n r
 fixed n number x r exists has e same = subst (Denotes n) same (exists, grind (arith, nat_tests))
 
-sources : (n : ℕ) (r : Register) → (nat_le 0x40000090 n && nat_le n 0x4000009f) ≡ true → Source (n - 0x40000090) ≡ r → Denotes n r
+sources : (n : ℕ) (r : Register) → (nat_le 0x40000090 n && nat_le n 0x4000009f) ≡ true → Source (n - 0x40000090) ≡ r
+    → Denotes n r
 sources n r e same =
     let low : 0x40000090 ≤ n = grind (arith, nat_tests) in
     let high : n ≤ 0x4000009f = grind (arith, nat_tests) in
@@ -30,7 +33,8 @@ in_turn n k h e =
       | false ↦ λ odd. (omega arith, let z : 0 < k % 2 = grind (arith, nat_tests) in omega arith)
     ] refl
 
-timers : (n : ℕ) (r : Register) → (nat_le 0x400000b0 n && nat_le n 0x400000b7) ≡ true → timer_register (n - 0x400000b0) ≡ r → Denotes n r
+timers : (n : ℕ) (r : Register) → (nat_le 0x400000b0 n && nat_le n 0x400000b7) ≡ true
+    → timer_register (n - 0x400000b0) ≡ r → Denotes n r
 timers n r e same =
     let low : 0x400000b0 ≤ n = grind (arith, nat_tests) in
     let high : n ≤ 0x400000b7 = grind (arith, nat_tests) in

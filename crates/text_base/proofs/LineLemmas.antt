@@ -23,7 +23,8 @@ onto_before : (x : ℕ) (xs : List ℕ) (ls : List (List ℕ)) → onto_lines x 
 onto_before x xs [] = refl
 onto_before x xs (l ∷ ls) = refl
 
-onto_before_rest : (x : ℕ) (xs : List ℕ) (ls : List (List ℕ)) (rest : List ℕ) → onto_rest x (before_lines xs ls) (before_rest xs ls rest) ≡ before_rest (x ∷ xs) ls rest
+onto_before_rest : (x : ℕ) (xs : List ℕ) (ls : List (List ℕ)) (rest : List ℕ)
+    → onto_rest x (before_lines xs ls) (before_rest xs ls rest) ≡ before_rest (x ∷ xs) ls rest
 onto_before_rest x xs [] rest = refl
 onto_before_rest x xs (l ∷ ls) rest = refl
 
@@ -41,7 +42,9 @@ lines_of-more (x ∷ xs) ys h = rw (ne_eqb x 10 h.0, lines_of-more xs ys h.1) (o
 
 pub rest_of-more : (xs ys : List ℕ) → IsOneLine xs → rest_of (xs ++ ys) ≡ before_rest xs (lines_of ys) (rest_of ys)
 rest_of-more [] ys h = before_rest_nil (lines_of ys) (rest_of ys)
-rest_of-more (x ∷ xs) ys h = rw (ne_eqb x 10 h.0, lines_of-more xs ys h.1, rest_of-more xs ys h.1) (onto_before_rest x xs (lines_of ys) (rest_of ys))
+rest_of-more (x ∷ xs) ys h =
+    rw (ne_eqb x 10 h.0, lines_of-more xs ys h.1, rest_of-more xs ys h.1)
+    (onto_before_rest x xs (lines_of ys) (rest_of ys))
 
 pub lines_of-rest : (xs : List ℕ) → IsOneLine xs → lines_of xs ≡ []
 lines_of-rest [] h = refl
@@ -70,19 +73,27 @@ lines-behind (l ∷ lines) more h = lines-behind lines more h.1
 
 pub joined-append : (xs ys : List (List ℕ)) → joined (xs ++ ys) ≡ joined xs ++ joined ys
 joined-append [] ys = refl
-joined-append (x ∷ xs) ys = ap (λ (z : List ℕ). x ++ 10 ∷ z) (joined-append xs ys) ∙ sym (append_assoc x (10 ∷ joined xs) (joined ys))
+joined-append (x ∷ xs) ys =
+    ap (λ (z : List ℕ). x ++ 10 ∷ z) (joined-append xs ys) ∙ sym (append_assoc x (10 ∷ joined xs) (joined ys))
 
-pub joined-snoc : (lines : List (List ℕ)) (line ys : List ℕ) → joined (lines ++ line ∷ []) ++ ys ≡ joined lines ++ (line ++ 10 ∷ ys)
-joined-snoc lines line ys = ap (λ (x : List ℕ). x ++ ys) (joined-append lines (line ∷ [])) ∙ append_assoc (joined lines) (line ++ 10 ∷ []) ys
+pub joined-snoc : (lines : List (List ℕ)) (line ys : List ℕ)
+    → joined (lines ++ line ∷ []) ++ ys ≡ joined lines ++ (line ++ 10 ∷ ys)
+joined-snoc lines line ys =
+    ap (λ (x : List ℕ). x ++ ys) (joined-append lines (line ∷ [])) ∙ append_assoc (joined lines) (line ++ 10 ∷ []) ys
     ∙ ap (λ (x : List ℕ). joined lines ++ x) (append_assoc line (10 ∷ []) ys)
 
-pub lines_of-joined : (lines : List (List ℕ)) (ys : List ℕ) → AreLines lines → lines_of (joined lines ++ ys) ≡ lines ++ lines_of ys
+pub lines_of-joined : (lines : List (List ℕ)) (ys : List ℕ) → AreLines lines
+    → lines_of (joined lines ++ ys) ≡ lines ++ lines_of ys
 lines_of-joined [] ys h = refl
-lines_of-joined (l ∷ lines) ys h = ap lines_of (append_assoc l (10 ∷ joined lines) ys) ∙ lines_of-line l (joined lines ++ ys) h.0 ∙ ap (λ (x : List (List ℕ)). l ∷ x) (lines_of-joined lines ys h.1)
+lines_of-joined (l ∷ lines) ys h =
+    ap lines_of (append_assoc l (10 ∷ joined lines) ys) ∙ lines_of-line l (joined lines ++ ys) h.0
+    ∙ ap (λ (x : List (List ℕ)). l ∷ x) (lines_of-joined lines ys h.1)
 
 pub rest_of-joined : (lines : List (List ℕ)) (ys : List ℕ) → AreLines lines → rest_of (joined lines ++ ys) ≡ rest_of ys
 rest_of-joined [] ys h = refl
-rest_of-joined (l ∷ lines) ys h = ap rest_of (append_assoc l (10 ∷ joined lines) ys) ∙ rest_of-line l (joined lines ++ ys) h.0 ∙ rest_of-joined lines ys h.1
+rest_of-joined (l ∷ lines) ys h =
+    ap rest_of (append_assoc l (10 ∷ joined lines) ys) ∙ rest_of-line l (joined lines ++ ys) h.0
+    ∙ rest_of-joined lines ys h.1
 
 -- a text is its lines, and the rest after the last line feed
 pub record IsCut (text : List ℕ) (lines : List (List ℕ)) (rest : List ℕ) : Type 0 where
@@ -90,15 +101,23 @@ pub record IsCut (text : List ℕ) (lines : List (List ℕ)) (rest : List ℕ) :
   pub one : IsOneLine rest
   pub whole : text ≡ joined lines ++ rest
 
-cut-more : (b : ℕ) (text : List ℕ) (lines : List (List ℕ)) (rest : List ℕ) → b ≢ 10 → IsCut text lines rest → IsCut (b ∷ text) (onto_lines b lines) (onto_rest b lines rest)
+cut-more : (b : ℕ) (text : List ℕ) (lines : List (List ℕ)) (rest : List ℕ) → b ≢ 10 → IsCut text lines rest
+    → IsCut (b ∷ text) (onto_lines b lines) (onto_rest b lines rest)
 cut-more b text [] rest other h = record { each = tt; one = (other, h.one); whole = ap (λ (x : List ℕ). b ∷ x) h.whole }
-cut-more b text (l ∷ lines) rest other h = record { each = ((other, h.each.0), h.each.1); one = h.one; whole = ap (λ (x : List ℕ). b ∷ x) h.whole }
+cut-more b text (l ∷ lines) rest other h =
+    record { each = ((other, h.each.0), h.each.1); one = h.one; whole = ap (λ (x : List ℕ). b ∷ x) h.whole }
 
 pub cut : (text : List ℕ) → IsCut text (lines_of text) (rest_of text)
 cut [] = record { each = tt; one = tt; whole = refl }
 cut (b ∷ text) = by (eqb b 10) refl (cut text)
   where
     by : (feed : Bool) → eqb b 10 ≡ feed → IsCut text (lines_of text) (rest_of text) →
-        IsCut (b ∷ text) (cond feed ([] ∷ lines_of text) (onto_lines b (lines_of text))) (cond feed (rest_of text) (onto_rest b (lines_of text) (rest_of text)))
-    by true e h = record { each = (tt, h.each); one = h.one; whole = ap (λ (x : ℕ). x ∷ text) (eqb-true b 10 e) ∙ ap (λ (x : List ℕ). 10 ∷ x) h.whole }
+        IsCut (b ∷ text) (cond feed ([] ∷ lines_of text) (onto_lines b (lines_of text)))
+        (cond feed (rest_of text) (onto_rest b (lines_of text) (rest_of text)))
+    by true e h =
+        record {
+          each = (tt, h.each);
+          one = h.one;
+          whole = ap (λ (x : ℕ). x ∷ text) (eqb-true b 10 e) ∙ ap (λ (x : List ℕ). 10 ∷ x) h.whole;
+        }
     by false e h = cut-more b text (lines_of text) (rest_of text) (λ is. let yes = eq-eqb b 10 is in cc) h

@@ -30,6 +30,7 @@ framed-same m n (Some xs) (Some ys) x y e =
     let both = parts-same xs ys x y (omega arith) text in
     record { name = cc; start = ap Some both.0; text = both.1 }
 
-pub framed-more : (name : ℕ) (start : Option (List ℕ)) (text more : List ℕ) → framed name start text ++ more ≡ framed name start (text ++ more)
+pub framed-more : (name : ℕ) (start : Option (List ℕ)) (text more : List ℕ)
+    → framed name start text ++ more ≡ framed name start (text ++ more)
 framed-more name None text more = refl
 framed-more name (Some bytes) text more = simp append_assoc

@@ -25,7 +25,8 @@ is_plain (b ∷ bytes) = nat_lt 32 b && is_plain bytes
 
 pub plain_by : (xs : List ℕ) → is_plain xs ≡ true → IsPlain xs
 plain_by [] e = tt
-plain_by (x ∷ xs) e = let h = (Decides-and _ _ (Decides-ltb 32 x) (same-Decides (is_plain xs))).0 e in (h.0, plain_by xs h.1)
+plain_by (x ∷ xs) e =
+    let h = (Decides-and _ _ (Decides-ltb 32 x) (same-Decides (is_plain xs))).0 e in (h.0, plain_by xs h.1)
 
 pub glyph-plain : (d : ℕ) → 32 < digit_glyph false d
 glyph-plain d = go (nat_lt d 10)
@@ -81,7 +82,8 @@ one-append (x ∷ xs) ys h k = (h.0, one-append xs ys h.1 k)
 one-words : (fields : List (List ℕ)) → ArePlain fields → IsOneLine (spaced fields)
 one-words [] h = tt
 one-words (f ∷ []) h = one-plain f h.0
-one-words (f ∷ g ∷ fields) h = one-append f (32 ∷ spaced (g ∷ fields)) (one-plain f h.0) ((λ e. omega (arith, e)), one-words (g ∷ fields) h.1)
+one-words (f ∷ g ∷ fields) h =
+    one-append f (32 ∷ spaced (g ∷ fields)) (one-plain f h.0) ((λ e. omega (arith, e)), one-words (g ∷ fields) h.1)
 
 pub split-one : (xs : List ℕ) → IsPlain xs → fields_of xs ≡ xs ∷ []
 split-one [] h = refl
@@ -92,9 +94,11 @@ split-more [] ys h = refl
 split-more (x ∷ xs) ys h = rw (ne_eqb x 32 (λ e. let low = h.0 in omega arith), split-more xs ys h.1) refl
 
 -- a line that was written from fields is parsed as these fields
-pub fields-words : (f : List ℕ) (fields : List (List ℕ)) → ArePlain (f ∷ fields) → fields_of (spaced (f ∷ fields)) ≡ f ∷ fields
+pub fields-words : (f : List ℕ) (fields : List (List ℕ)) → ArePlain (f ∷ fields)
+    → fields_of (spaced (f ∷ fields)) ≡ f ∷ fields
 fields-words f [] h = split-one f h.0
-fields-words f (g ∷ fields) h = split-more f (spaced (g ∷ fields)) h.0 ∙ ap (λ (x : List (List ℕ)). f ∷ x) (fields-words g fields h.1)
+fields-words f (g ∷ fields) h =
+    split-more f (spaced (g ∷ fields)) h.0 ∙ ap (λ (x : List (List ℕ)). f ∷ x) (fields-words g fields h.1)
 
 abbrev pub total : List (List ℕ) → ℕ
 total [] = 0
@@ -103,7 +107,8 @@ total (f ∷ fields) = length f + 1 + total fields
 short-words : (fields : List (List ℕ)) → length (spaced fields) ≤ total fields
 short-words [] = omega arith
 short-words (f ∷ []) = omega arith
-short-words (f ∷ g ∷ fields) = let h = short-words (g ∷ fields) in omega (arith, h, length-append f (32 ∷ spaced (g ∷ fields)))
+short-words (f ∷ g ∷ fields) =
+    let h = short-words (g ∷ fields) in omega (arith, h, length-append f (32 ∷ spaced (g ∷ fields)))
 
 -- a line in its written form
 pub record IsWritten (fields : List (List ℕ)) : Type 0 where
@@ -111,5 +116,11 @@ pub record IsWritten (fields : List (List ℕ)) : Type 0 where
   pub short : length (spaced fields) ≤ 640
   pub read : fields_of (spaced fields) ≡ fields
 
-pub written : (f : List ℕ) (fields : List (List ℕ)) → ArePlain (f ∷ fields) → total (f ∷ fields) ≤ 640 → IsWritten (f ∷ fields)
-written f fields h bound = record { one = one-words (f ∷ fields) h; short = (let k = short-words (f ∷ fields) in omega arith); read = fields-words f fields h }
+pub written : (f : List ℕ) (fields : List (List ℕ)) → ArePlain (f ∷ fields) → total (f ∷ fields) ≤ 640
+    → IsWritten (f ∷ fields)
+written f fields h bound =
+    record {
+      one = one-words (f ∷ fields) h;
+      short = (let k = short-words (f ∷ fields) in omega arith);
+      read = fields-words f fields h;
+    }

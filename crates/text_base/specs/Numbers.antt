@@ -19,7 +19,8 @@ spelled (b ∷ bytes) = digit_glyph false (b / 16) ∷ digit_glyph false (b % 16
 
 -- the number, at most `most`, that this text denotes
 abbrev pub decimal_at : ℕ → List ℕ → Option ℕ
-decimal_at most text = let n = digits_value 10 text in if nat_le n most && bytes_eq text (decimal n) then Some n else None
+decimal_at most text =
+    let n = digits_value 10 text in if nat_le n most && bytes_eq text (decimal n) then Some n else None
 
 abbrev pub hex_at : ℕ → List ℕ → Option ℕ
 hex_at most text = let n = digits_value 16 text in if nat_le n most && bytes_eq text (hex n) then Some n else None

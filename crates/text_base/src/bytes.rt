@@ -30,7 +30,8 @@ pub fn byte_of(text: &[u8]) -> Option<u8>
 #[inline(always)]
 pub(crate) fn bytes_front<const N: usize>(text: &[u8], out: &mut ArrayVec<u8, N>) -> Option<usize>
     ensures front { IfSome result (λ count. IsBytesFront text.now out.new.items count) }
-    ensures field { (bytes : List ℕ) (count : ℕ) → length bytes ≤ N → IsBytesField text.now bytes count → result ≡ Some count }
+    ensures field { (bytes : List ℕ) (count : ℕ) → length bytes ≤ N → IsBytesField text.now bytes count
+        → result ≡ Some count }
 {
     out.clear();
     let mut rest = eights_front(text, out);

@@ -221,7 +221,9 @@ impl<'a> Fields<'a> {
     /// not, or if the bytes do not fit; then `out` holds some bytes, and some fields are left.
     #[inline(always)]
     pub fn bytes<const N: usize>(&mut self, out: &mut ArrayVec<u8, N>) -> Option<()>
-        ensures { MatchOption result ((bytes : List ℕ) (rest : List (List ℕ)) → AreBytes bytes → length bytes ≤ N → self.old ≡ spelled bytes ∷ rest → ⊥)
+        ensures { MatchOption result
+            ((bytes : List ℕ) (rest : List (List ℕ)) → AreBytes bytes → length bytes ≤ N
+            → self.old ≡ spelled bytes ∷ rest → ⊥)
             (λ _. (self.old ≡ spelled out.new.items ∷ self.new) × AreBytes out.new.items) }
     {
         let rest = self.rest?;

@@ -79,7 +79,8 @@ fn positive_front(text: &[u8], base: u64, digits: usize) -> Option<(u64, usize)>
 /// The value of a digit of base 16 or less, in lower case.
 #[inline(always)]
 pub(crate) fn digit_of(c: u8) -> Option<u8>
-    ensures { MatchOption result ((d : ℕ) → d < 16 → c ≡ digit_glyph false d → ⊥) (λ d. (d < 16) × (c ≡ digit_glyph false d)) }
+    ensures { MatchOption result ((d : ℕ) → d < 16 → c ≡ digit_glyph false d → ⊥)
+        (λ d. (d < 16) × (c ≡ digit_glyph false d)) }
 {
     let digit = c.wrapping_sub(b'0');
     if digit < 10 {

@@ -36,7 +36,8 @@ impl<'a, W: Write> Model for Output<'a, W> {
       text = o.chunk.before.bytes ++ o.chunk.bytes.items;
     } };
 
-    ghost invariant = { λ o. Holds (first_contents W.contents o.origin.values) (W.contents o.writer.now) o.chunk.before.bytes o.failed };
+    ghost invariant = { λ o. Holds (first_contents W.contents o.origin.values)
+        (W.contents o.writer.now) o.chunk.before.bytes o.failed };
 }
 
 impl<'a, W: Write> Output<'a, W> {

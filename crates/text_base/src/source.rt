@@ -43,7 +43,8 @@ impl Model for Source {
       budget = s.budget;
     } };
 
-    ghost invariant = { λ s. (s.line_at ≤ s.line_end) × (s.line_end ≤ 65536) × (s.at ≤ s.end) × (s.end ≤ 65536) × (vec_len s.bytes ≡ 65536) };
+    ghost invariant = { λ s. (s.line_at ≤ s.line_end) × (s.line_end ≤ 65536) × (s.at ≤ s.end) × (s.end ≤ 65536)
+        × (vec_len s.bytes ≡ 65536) };
 }
 
 #[derive(Drop)]
@@ -226,7 +227,8 @@ fn refill<R: Read>(
 /// The index of the first line feed. Most lines have fewer than 32 bytes, and are searched without a call.
 #[inline(always)]
 fn feed(text: &[u8]) -> Option<usize>
-    ensures { MatchOption result (IsOneLine text.now) (λ k. (k < length text.now) × IsOneLine (take k text.now) × (get_or text.now k 0 ≡ 10)) }
+    ensures { MatchOption result (IsOneLine text.now)
+        (λ k. (k < length text.now) × IsOneLine (take k text.now) × (get_or text.now k 0 ≡ 10)) }
 {
     if text.len() < 32 {
         return memchr(b'\n', text);

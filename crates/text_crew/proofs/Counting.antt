@@ -12,9 +12,17 @@ use Rattle.text_crew.specs.declared.held.CrewScript.{CrewScript}
 use Rattle.text_crew.specs.declared.held.Section.{Section}
 use Rattle.text_crew.specs.declared.held.Section.TheVariants as held
 
-pub lengths : (scripts : List (Vec Step Global)) → sum_by (λ (s : List Step). length s) (lists scripts) ≡ sum_by (λ (s : Vec Step Global). vec_len s) scripts
+pub lengths : (scripts : List (Vec Step Global))
+    → sum_by (λ (s : List Step). length s) (lists scripts) ≡ sum_by (λ (s : Vec Step Global). vec_len s) scripts
 lengths [] = refl
-lengths (s ∷ scripts) = omega (arith, s.ok.0, lengths scripts, sum_by-cons (λ (x : List Step). length x) s.items (lists scripts), sum_by-cons (λ (x : Vec Step Global). vec_len x) s scripts)
+lengths (s ∷ scripts) =
+    omega (
+      arith,
+      s.ok.0,
+      lengths scripts,
+      sum_by-cons (λ (x : List Step). length x) s.items (lists scripts),
+      sum_by-cons (λ (x : Vec Step Global). vec_len x) s scripts,
+    )
 
 -- the steps of the current section, if it is an actor's
 abbrev pub open_of : Section → ℕ
@@ -23,7 +31,8 @@ open_of (held.Actor steps) = vec_len steps
 open_of (held.Line raises) = 0
 
 by-section : (c : CrewScript) (section : Section) → c.section ≡ section →
-    entries (crew_of c) ≡ vec_len c.setup.events + (sum_by (λ (s : Vec Step Global). vec_len s) c.scripts.actors.items + open_of section) + 4 * c.setup.processors
+    entries (crew_of c) ≡ vec_len c.setup.events +
+    (sum_by (λ (s : Vec Step Global). vec_len s) c.scripts.actors.items + open_of section) + 4 * c.setup.processors
 by-section c held.Setup is = rw is (omega (arith, lengths c.scripts.actors.items, c.setup.events.ok.0))
 by-section c (held.Actor steps) is =
     rw is (omega (
@@ -36,10 +45,13 @@ by-section c (held.Actor steps) is =
     ))
 by-section c (held.Line raises) is = rw is (omega (arith, lengths c.scripts.actors.items, c.setup.events.ok.0))
 
-pub entries-are : (c : CrewScript) → entries (crew_of c) ≡ vec_len c.setup.events + (sum_by (λ (s : Vec Step Global). vec_len s) c.scripts.actors.items + open_of c.section) + 4 * c.setup.processors
+pub entries-are : (c : CrewScript)
+    → entries (crew_of c) ≡ vec_len c.setup.events +
+    (sum_by (λ (s : Vec Step Global). vec_len s) c.scripts.actors.items + open_of c.section) + 4 * c.setup.processors
 entries-are c = by-section c c.section refl
 
-pub no-steps : (c : CrewScript) → (c.section ≡ held.Setup) ⊎ ((raises : Vec (ℕ × ℕ) Global) × (c.section ≡ held.Line raises)) → 0 ≡ open_of c.section
+pub no-steps : (c : CrewScript) → (c.section ≡ held.Setup)
+    ⊎ ((raises : Vec (ℕ × ℕ) Global) × (c.section ≡ held.Line raises)) → 0 ≡ open_of c.section
 no-steps c (inl is) = ap open_of (sym is)
 no-steps c (inr is) = ap open_of (sym is.1)
 

@@ -16,11 +16,13 @@ as-many : {A : Type 0} (scripts : List (Vec A Global)) → length (lists scripts
 as-many [] = refl
 as-many (s ∷ scripts) = omega (arith, as-many scripts)
 
-any-in : {A : Type 0} (bad : List A → Bool) (scripts : List (Vec A Global)) → list_any (λ (s : Vec A Global). bad s.items) scripts ≡ list_any bad (lists scripts)
+any-in : {A : Type 0} (bad : List A → Bool) (scripts : List (Vec A Global))
+    → list_any (λ (s : Vec A Global). bad s.items) scripts ≡ list_any bad (lists scripts)
 any-in bad [] = refl
 any-in bad (s ∷ scripts) = ap (λ (b : Bool). bad s.items || b) (any-in bad scripts)
 
-pub script-sized : (board : Option State) (c : CrewScript) → IsGoodOn board (crew_of c) → AreScriptSizes c.setup c.scripts
+pub script-sized : (board : Option State) (c : CrewScript) → IsGoodOn board (crew_of c)
+    → AreScriptSizes c.setup c.scripts
 script-sized board c g = record {
   actors = omega (arith, g.few_actors, as-many c.scripts.actors.items, c.scripts.actors.ok.0);
   lines = omega (arith, g.few_lines, as-many c.scripts.lines.items, c.scripts.lines.ok.0);
@@ -38,13 +40,22 @@ one-sparse n ticket s is = sym (ap processors is ∙ length-replicate n _)
 
 pub sized : (c : CrewScript) → IsGoodOn None (crew_of c) → 1 ≤ c.setup.pages → IsSized c.setup c.scripts
 sized c g some = record {
-  board = record { some_processor = g.board.some_processor; processor_bound = g.board.dense_bound (λ none. omega (arith, none, some)); some_page = some; page_bound = g.board.page_bound };
+  board = record {
+    some_processor = g.board.some_processor;
+    processor_bound =
+        g.board.dense_bound (λ none. omega (arith, none, some));
+    some_page = some;
+    page_bound = g.board.page_bound;
+  };
   sizes = script-sized None c g;
 }
 
-pub none-bad : (board : Option State) (c : CrewScript) → IsGoodOn board (crew_of c) → has_bad_step c.setup c.scripts ≡ false
+pub none-bad : (board : Option State) (c : CrewScript) → IsGoodOn board (crew_of c)
+    → has_bad_step c.setup c.scripts ≡ false
 none-bad board c g =
     let steps = any-in (list_any is_bad_step) c.scripts.actors.items ∙ g.no_bad_step in
     let raises = any-in (list_any (is_bad_raise c.setup.processors)) c.scripts.lines.items ∙ g.no_bad_raise in
-    let acts = or_from (list_any is_absorb c.setup.events.items) (list_any is_bad_script c.scripts.actors.items) g.no_bad_event steps in
-    or_from (list_any is_absorb c.setup.events.items || list_any is_bad_script c.scripts.actors.items) (list_any (is_bad_line c.setup.processors) c.scripts.lines.items) acts raises
+    let acts = or_from (list_any is_absorb c.setup.events.items)
+    (list_any is_bad_script c.scripts.actors.items) g.no_bad_event steps in
+    or_from (list_any is_absorb c.setup.events.items || list_any is_bad_script c.scripts.actors.items)
+    (list_any (is_bad_line c.setup.processors) c.scripts.lines.items) acts raises

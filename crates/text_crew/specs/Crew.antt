@@ -23,7 +23,16 @@ pub record Crew : Type 0 where
   pub section : Section
 
 abbrev pub new_crew : ℕ → ℕ → ℕ → Crew
-new_crew processors pages ticket = record { processors = processors; pages = pages; first_ticket = ticket; setup = []; actors = []; lines = []; section = InSetup }
+new_crew processors pages ticket =
+    record {
+      processors = processors;
+      pages = pages;
+      first_ticket = ticket;
+      setup = [];
+      actors = [];
+      lines = [];
+      section = InSetup;
+    }
 
 -- the same with the current section closed
 abbrev pub over : Section → Crew → Crew

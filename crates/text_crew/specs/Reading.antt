@@ -35,13 +35,16 @@ abbrev pub on_board : ℕ → ℕ × ℕ → Option (ℕ × ℕ)
 on_board processors raise = if nat_lt raise.0 processors then Some raise else None
 
 abbrev pub parse_raise : ℕ → Fields → Option (ℕ × ℕ)
-parse_raise processors fields = option_and_then (on_board processors) (take_then u8_at (λ vp. take_then vector_at (λ vector. none_left (vp, vector))) fields)
+parse_raise processors fields =
+    option_and_then (on_board processors)
+    (take_then u8_at (λ vp. take_then vector_at (λ vector. none_left (vp, vector))) fields)
 
 abbrev pub step_of : Event → Option Step
 step_of e = Some (Act e)
 
 abbrev pub parse_step : List ℕ → Fields → Option Step
-parse_step word fields = if bytes_eq word (codes "absorb") then parse_sweep fields else option_and_then step_of (parse_act (word ∷ fields))
+parse_step word fields =
+    if bytes_eq word (codes "absorb") then parse_sweep fields else option_and_then step_of (parse_act (word ∷ fields))
 
 abbrev pub parse_line_step : ℕ → List ℕ → Fields → Option (ℕ × ℕ)
 parse_line_step processors word fields = if bytes_eq word (codes "raise") then parse_raise processors fields else None
@@ -70,17 +73,22 @@ section_line (InLine raises) crew word fields = with_raise crew raises (parse_li
 
 -- `actor` begins the script of the next actor, at most 15, and `line` that of the next line, at most 16
 abbrev pub with_actor : Crew → Fields → Read
-with_actor crew [] = if nat_lt (length (finished crew).actors) 15 then Ok (Some (record (finished crew) { section = InActor [] })) else Err faults.Many
+with_actor crew [] =
+    if nat_lt (length (finished crew).actors) 15 then Ok (Some (record (finished crew) { section = InActor [] }))
+    else Err faults.Many
 with_actor crew (field ∷ fields) = Err faults.Form
 
 abbrev pub with_line : Crew → Fields → Read
-with_line crew [] = if nat_lt (length (finished crew).lines) 16 then Ok (Some (record (finished crew) { section = InLine [] })) else Err faults.Many
+with_line crew [] =
+    if nat_lt (length (finished crew).lines) 16 then Ok (Some (record (finished crew) { section = InLine [] }))
+    else Err faults.Many
 with_line crew (field ∷ fields) = Err faults.Form
 
 -- the first item opens the board, within the limits
 abbrev pub with_board : Option (ℕ × Option ℕ × ℕ) → Read
 with_board None = Err faults.First
-with_board (Some board) = if are_sizes board.0 board.1 then Ok (Some (new_crew board.0 (pages_held board.1) board.2)) else Err faults.Size
+with_board (Some board) =
+    if are_sizes board.0 board.1 then Ok (Some (new_crew board.0 (pages_held board.1) board.2)) else Err faults.Size
 
 abbrev pub parse_first : List ℕ → Fields → Read
 parse_first word fields = if bytes_eq word (codes "board") then with_board (parse_opening fields) else Err faults.First
@@ -113,13 +121,15 @@ abbrev pub is_open : Option Crew → Bool
 is_open None = false
 is_open (Some crew) = true
 
-abbrev pub continue_with : ℕ → Read → (Option Crew → Result (Option Crew) (ℕ × ScriptFault)) → Result (Option Crew) (ℕ × ScriptFault)
+abbrev pub continue_with : ℕ → Read → (Option Crew → Result (Option Crew) (ℕ × ScriptFault))
+    → Result (Option Crew) (ℕ × ScriptFault)
 continue_with k (Err fault) next = Err (k, fault)
 continue_with k (Ok crew) next = next crew
 
 abbrev pub parse_lines : ℕ → Option Crew → List (List ℕ) → List ℕ → Result (Option Crew) (ℕ × ScriptFault)
 parse_lines k crew [] rest = at_rest k crew (rest_fault (is_open crew) rest)
-parse_lines k crew (line ∷ lines) rest = continue_with k (parse_line crew line) (λ (next : Option Crew). parse_lines (k + 1) next lines rest)
+parse_lines k crew (line ∷ lines) rest =
+    continue_with k (parse_line crew line) (λ (next : Option Crew). parse_lines (k + 1) next lines rest)
 
 -- the crew of a whole script, which begins with this crew, or its first fault
 unfoldable pub parse_from : Option Crew → List ℕ → Result (Option Crew) (ℕ × ScriptFault)

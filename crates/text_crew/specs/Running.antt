@@ -21,8 +21,10 @@ use Rattle.text_crew.specs.Reading.{parse_from}
 use Rattle.text_crew.specs.declared.running.CrewRun.{CrewRun}
 use Rattle.text_crew.specs.declared.running.CrewRun.TheVariants.{Done, Script, Unsettled, Memory, NoThread, Reading, Writing}
 
--- A history of a crew on a board in this state, under any schedule: a run of one thread that has the setup, the actors' scripts and the last absorbs
--- in their places and no other entry, in which each Fresh raise of a line was absorbed once, and after which no bit is set.
+-- A history of a crew on a board in this state, under any schedule: a run of one thread that has the setup, the
+-- actors' scripts and the last absorbs
+-- in their places and no other entry, in which each Fresh raise of a line was absorbed once, and after which no bit
+-- is set.
 pub record IsScriptHistory (crew : Crew) (start : State) (history : List Entry) : Type 0 where
   pub legal : IsLegal start history
   pub crewed : IsCrewHistory crew.processors crew.setup crew.actors history
@@ -32,8 +34,10 @@ pub record IsScriptHistory (crew : Crew) (start : State) (history : List Entry) 
   pub raises : AreAbsorbed (4 * crew.processors) (logs_of crew.lines answers) history standing
   pub clear : All (λ (word : ℕ). word ≡ 0) standing
 
--- The trace of a history of a crew, in this format or with a send in format 5. It is the trace of a legal history with as many entries as the script has.
-pub record IsCrewTrace (format : Format) (beginning : List ℕ) (start : State) (crew : Crew) (text : List ℕ) : Type 0 where
+-- The trace of a history of a crew, in this format or with a send in format 5. It is the trace of a legal history
+-- with as many entries as the script has.
+pub record IsCrewTrace (format : Format) (beginning : List ℕ) (start : State) (crew : Crew)
+    (text : List ℕ) : Type 0 where
   pub history : List Entry
   pub is : IsScriptHistory crew start history
   pub written : text ≡ trace (format_for format history) beginning start history
@@ -52,7 +56,8 @@ opened_format (suc n) = Two
 -- of a crew whose script opens its board, in format 2, or in format 4 if the board is sparse
 abbrev pub IsOpenedTrace : Crew → List ℕ → Type 0
 IsOpenedTrace crew =
-    IsCrewTrace (opened_format crew.pages) (board_text crew.processors (line_pages crew.pages) crew.first_ticket) (opened crew.processors crew.pages crew.first_ticket) crew
+    IsCrewTrace (opened_format crew.pages) (board_text crew.processors (line_pages crew.pages) crew.first_ticket)
+    (opened crew.processors crew.pages crew.first_ticket) crew
 
 -- of a crew on a board in this state, in format 3: it begins with the image of the state
 abbrev pub IsGivenTrace : State → Crew → List ℕ → Type 0
@@ -79,7 +84,8 @@ pub record HasCrew (board : Option State) (script : List ℕ) (Property : Crew �
 -- the text for a script, by the end of its run
 abbrev pub IsOutput : Option State → List ℕ → CrewRun → List ℕ → Type 0
 IsOutput board script Done text = HasCrew board script (λ (crew : Crew). IsTraceOn board crew text)
-IsOutput board script (Script line fault) text = (parse_on board script ≡ Err (line, fault)) × (text ≡ fault_text (Some (line, fault)))
+IsOutput board script (Script line fault) text =
+    (parse_on board script ≡ Err (line, fault)) × (text ≡ fault_text (Some (line, fault)))
 IsOutput board script Unsettled text = HasCrew board script (λ (crew : Crew). text ≡ codes "! settle\n")
 IsOutput board script NoThread text = HasCrew board script (λ (crew : Crew). text ≡ [])
 IsOutput board script end text = text ≡ []

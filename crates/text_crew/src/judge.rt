@@ -19,7 +19,8 @@ pub(crate) struct CrewJudge {
 impl Judge for CrewJudge {
     type Fault = ScriptFault;
 
-    ghost good = { λ old line answer new. (answer ≡ []) × (parse_line (optional_crew old.script) line ≡ Ok (optional_crew new.script)) };
+    ghost good = { λ old line answer new. (answer ≡ [])
+        × (parse_line (optional_crew old.script) line ≡ Ok (optional_crew new.script)) };
 
     ghost wrong = { λ judge line fault. parse_line (optional_crew judge.script) line ≡ Err fault };
 

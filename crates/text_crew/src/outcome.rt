@@ -136,7 +136,9 @@ fn image_of(alloc: Global, board: &Board) -> Result<Vec<u8>, AllocError>
 /// Appends the trace of a crew that has ended, on a board that its script opened. It is separate
 /// from `run_whole`, so that one owner drops the crew.
 fn put_opened(setup: &Setup, ended: &Ended, out: &mut Vec<u8>) -> Outcome
-    ensures traced { IsTraced Format.Two (board_text setup.now.processors (Some setup.now.pages) setup.now.first_ticket) result ended.now out.old.items out.new.items }
+    ensures traced { IsTraced Format.Two
+        (board_text setup.now.processors (Some setup.now.pages) setup.now.first_ticket) result ended.now out.old.items
+        out.new.items }
     ensures ticket { setup.now.first_ticket < 2 ^ 64 }
 {
     match put_trace(
@@ -154,7 +156,8 @@ fn put_opened(setup: &Setup, ended: &Ended, out: &mut Vec<u8>) -> Outcome
 
 /// Appends the trace of a crew that has ended, on a sparse board that its script opened.
 fn put_sparse(setup: &Setup, ended: &Ended, out: &mut Vec<u8>) -> Outcome
-    ensures traced { IsTraced Format.Four (board_text setup.now.processors None setup.now.first_ticket) result ended.now out.old.items out.new.items }
+    ensures traced { IsTraced Format.Four
+        (board_text setup.now.processors None setup.now.first_ticket) result ended.now out.old.items out.new.items }
     ensures ticket { setup.now.first_ticket < 2 ^ 64 }
 {
     let (history, next) = (ended.history.as_slice(), ended.board.next_ticket());

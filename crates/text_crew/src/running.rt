@@ -51,7 +51,8 @@ pub fn crew<T: Threads + Wait + Sync, R: Read, W: Write, G: Gate + Sync>(
     writer: &mut W,
     gate: &G,
 ) -> CrewRun
-    ensures text { Writes (IsKnownOutput None (R.remaining reader.old)) result (W.contents writer.old) (W.contents writer.new) }
+    ensures text { Writes (IsKnownOutput None (R.remaining reader.old)) result (W.contents writer.old)
+        (W.contents writer.new) }
     ensures limit { ReadsUpTo (most_read result) (R.remaining reader.old) (R.remaining reader.new) }
     ensures near { StopsNear result (R.remaining reader.old) (R.remaining reader.new) }
 {
@@ -69,7 +70,8 @@ pub fn crew_on<T: Threads + Wait + Sync, R: Read, W: Write, G: Gate + Sync>(
     writer: &mut W,
     gate: &G,
 ) -> CrewRun
-    ensures text { Writes (IsKnownOutput (Some board.state) (R.remaining reader.old)) result (W.contents writer.old) (W.contents writer.new) }
+    ensures text { Writes (IsKnownOutput (Some board.state) (R.remaining reader.old)) result (W.contents writer.old)
+        (W.contents writer.new) }
     ensures limit { ReadsUpTo (most_read result) (R.remaining reader.old) (R.remaining reader.new) }
     ensures near { StopsNear result (R.remaining reader.old) (R.remaining reader.new) }
 {
@@ -85,7 +87,8 @@ fn run_script<T: Threads + Wait + Sync, R: Read, W: Write, G: Gate + Sync>(
     writer: &mut W,
     gate: &G,
 ) -> CrewRun
-    ensures text { Writes (IsKnownOutput (state_in board) (R.remaining reader.old)) result (W.contents writer.old) (W.contents writer.new) }
+    ensures text { Writes (IsKnownOutput (state_in board) (R.remaining reader.old)) result (W.contents writer.old)
+        (W.contents writer.new) }
     ensures limit { ReadsUpTo (most_read result) (R.remaining reader.old) (R.remaining reader.new) }
     ensures near { StopsNear result (R.remaining reader.old) (R.remaining reader.new) }
 {
@@ -133,7 +136,8 @@ fn run<T: Threads + Wait + Sync, W: Write, G: Gate + Sync>(
     gate: &G,
 ) -> CrewRun
     requires good { IsGoodOn (state_in board) (finished (crew_of script)) }
-    ensures { Writes (Report (state_in board) (finished (crew_of script))) result (W.contents writer.old) (W.contents writer.new) }
+    ensures { Writes (Report (state_in board) (finished (crew_of script))) result (W.contents writer.old)
+        (W.contents writer.new) }
 {
     let mut out = Vec::new(alloc);
     match prepare(rt, alloc, board, &mut script, gate, &mut out) {

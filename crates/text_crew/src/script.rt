@@ -125,7 +125,8 @@ impl CrewScript {
         word: &[u8],
         fields: &mut Fields<'_>,
     ) -> Taken<ScriptFault>
-        ensures { IsLineResult result (parse_section_line (crew_of self.old) word.now fields.old) (Some (crew_of self.new)) }
+        ensures { IsLineResult result (parse_section_line (crew_of self.old) word.now fields.old)
+            (Some (crew_of self.new)) }
     {
         if word == b"actor".as_slice() {
             return self.begin_actor(alloc, fields);
@@ -138,7 +139,9 @@ impl CrewScript {
 
     /// Takes a line of the current section.
     fn take_step(&mut self, word: &[u8], fields: &mut Fields<'_>) -> Taken<ScriptFault>
-        ensures { IsLineResult result (section_line (section_of self.old.section) (crew_of self.old) word.now fields.old) (Some (crew_of self.new)) }
+        ensures { IsLineResult result
+            (section_line (section_of self.old.section) (crew_of self.old) word.now fields.old)
+            (Some (crew_of self.new)) }
     {
         let has_room = self.has_room();
         match &mut self.section {

@@ -11,7 +11,8 @@ abbrev pub next_of : List (List ℕ) → List ℕ → List ℕ
 next_of [] rest = rest
 next_of (line ∷ lines) rest = line
 
--- A place in a text after some good lines: the number of the next line, the judge's state before it, the whole lines that are left, and what follows the last line feed.
+-- A place in a text after some good lines: the number of the next line, the judge's state before it, the whole lines
+-- that are left, and what follows the last line feed.
 pub record Place (J : Type 0) : Type 0 where
   pub number : ℕ
   pub state : J
@@ -29,13 +30,16 @@ NextLine (line ∷ left) holds = holds line
 -- How a drive ends at a place: at the end of the text, or at a line that is wrong, too long or cut.
 abbrev pub Ends : {J F : Type 0} → (J → List ℕ → F → Type 0) → End F → Place J → J → Type 0
 Ends wrong (ends.Last line) p new = (line ≡ p.number) × (new ≡ p.state) × (p.left ≡ []) × (p.rest ≡ [])
-Ends wrong (ends.Wrong line fault) p new = NextLine p.left (λ bad. (line ≡ p.number) × (length bad ≤ 640) × wrong p.state bad fault)
+Ends wrong (ends.Wrong line fault) p new =
+    NextLine p.left (λ bad. (line ≡ p.number) × (length bad ≤ 640) × wrong p.state bad fault)
 Ends wrong (ends.Long line) p new = (line ≡ p.number) × (new ≡ p.state) × (640 < length (next_of p.left p.rest))
-Ends wrong (ends.Cut line) p new = (line ≡ p.number) × (new ≡ p.state) × (p.left ≡ []) × (0 < length p.rest) × (length p.rest ≤ 640)
+Ends wrong (ends.Cut line) p new =
+    (line ≡ p.number) × (new ≡ p.state) × (p.left ≡ []) × (0 < length p.rest) × (length p.rest ≤ 640)
 Ends wrong end p new = Unit {0}
 
 -- The first lines of the text are good, these are their answers, and then a drive ends so.
-pub record Stops {J F : Type 0} (good : J → List ℕ → List ℕ → J → Type 0) (wrong : J → List ℕ → F → Type 0) (end : End F) (old new : J) (answers text : List ℕ) : Type 0 where
+pub record Stops {J F : Type 0} (good : J → List ℕ → List ℕ → J → Type 0) (wrong : J → List ℕ → F → Type 0)
+    (end : End F) (old new : J) (answers text : List ℕ) : Type 0 where
   pub lines : List (List ℕ)
   pub left : List (List ℕ)
   pub state : J
@@ -48,8 +52,10 @@ abbrev pub Sends : {F : Type 0} → End F → List ℕ → List ℕ → Type 0
 Sends ends.Writing answers sent = (unsent : List ℕ) × (answers ≡ sent ++ unsent)
 Sends end answers sent = answers ≡ sent
 
--- A drive takes the reader and the writer from their contents before to those after: the bytes that were read determine its end, and the whole input determines the same end.
-pub record Drives {J F : Type 0} (good : J → List ℕ → List ℕ → J → Type 0) (wrong : J → List ℕ → F → Type 0) (end : End F) (old new : J) (r0 r1 w0 w1 : Option (List ℕ)) : Type 0 where
+-- A drive takes the reader and the writer from their contents before to those after: the bytes that were read
+-- determine its end, and the whole input determines the same end.
+pub record Drives {J F : Type 0} (good : J → List ℕ → List ℕ → J → Type 0) (wrong : J → List ℕ → F → Type 0)
+    (end : End F) (old new : J) (r0 r1 w0 w1 : Option (List ℕ)) : Type 0 where
   pub taken : List ℕ
   pub answers : List ℕ
   pub sent : List ℕ

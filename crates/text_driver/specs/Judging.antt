@@ -4,7 +4,8 @@ use Rattle.text_driver.specs.declared.judge.Taken.{Taken}
 use Rattle.text_driver.specs.declared.judge.Taken.TheVariants as taken
 
 -- a line is good, or has a fault
-abbrev pub Judges : {J F : Type 0} → (J → List ℕ → List ℕ → J → Type 0) → (J → List ℕ → F → Type 0) → Taken F → J → J → List ℕ → List ℕ → Type 0
+abbrev pub Judges : {J F : Type 0} → (J → List ℕ → List ℕ → J → Type 0) → (J → List ℕ → F → Type 0) → Taken F → J → J
+    → List ℕ → List ℕ → Type 0
 Judges good wrong taken.Good old new line out = good old line out new
 Judges good wrong (taken.Wrong fault) old new line out = wrong old line fault
 Judges good wrong taken.Memory old new line out = Unit {0}
@@ -15,7 +16,10 @@ GoesOn ready taken.Good old new = (lines : ℕ) → ready lines old → ready (l
 GoesOn ready (taken.Wrong fault) old new = Unit {0}
 GoesOn ready taken.Memory old new = Unit {0}
 
--- Starting in one state and ending in another, each of these lines is good and has at most 640 bytes, and these answers are sent.
+-- Starting in one state and ending in another, each of these lines is good and has at most 640 bytes, and these
+-- answers are sent.
 abbrev pub AreGoodLines : {J : Type 0} → (J → List ℕ → List ℕ → J → Type 0) → J → List (List ℕ) → List ℕ → J → Type 0
 AreGoodLines good old [] sent new = (sent ≡ []) × (new ≡ old)
-AreGoodLines {J} good old (line ∷ lines) sent new = (answer rest : List ℕ) × (next : J) × (length line ≤ 640) × good old line answer next × AreGoodLines good next lines rest new × (sent ≡ answer ++ rest)
+AreGoodLines {J} good old (line ∷ lines) sent new =
+    (answer rest : List ℕ) × (next : J) × (length line ≤ 640) × good old line answer next
+    × AreGoodLines good next lines rest new × (sent ≡ answer ++ rest)

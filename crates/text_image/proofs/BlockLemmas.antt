@@ -16,19 +16,28 @@ pub record SpellsBlock (text bytes : List ℕ) : Type 0 where
 pub block-only : (text bytes : List ℕ) → block_at text ≡ Some bytes → SpellsBlock text bytes
 block-only text bytes e = go (spelled_at text) refl e
   where
-    whole : (some : List ℕ) → spelled_at text ≡ Some some → (t : Bool) → (length some == 256) ≡ t → cond t (Some some) None ≡ Some bytes → SpellsBlock text bytes
-    whole some is true size e = let same : some ≡ bytes = cc in let h = spelled_at-only text some is in rw (← same) (record { same = h.same; all = h.all; size = grind (arith, nat_tests) })
+    whole : (some : List ℕ) → spelled_at text ≡ Some some → (t : Bool) → (length some == 256) ≡ t
+        → cond t (Some some) None ≡ Some bytes → SpellsBlock text bytes
+    whole some is true size e =
+        let same : some ≡ bytes =
+        cc in let h =
+        spelled_at-only text some is in
+        rw (← same) (record { same = h.same; all = h.all; size = grind (arith, nat_tests) })
     whole some is false size e = cc
 
-    go : (r : Option (List ℕ)) → spelled_at text ≡ r → option_and_then whole_block r ≡ Some bytes → SpellsBlock text bytes
+    go : (r : Option (List ℕ)) → spelled_at text ≡ r → option_and_then whole_block r ≡ Some bytes
+        → SpellsBlock text bytes
     go None is e = cc
     go (Some some) is e = whole some is (length some == 256) refl e
 
 pub block-spelled : (bytes : List ℕ) → AreBytes bytes → length bytes ≡ 256 → block_at (spelled bytes) ≡ Some bytes
-block-spelled bytes all size = ap (option_and_then whole_block) (spelled_at-spelled bytes all) ∙ ap (λ n. cond (n == 256) (Some bytes) None) size
+block-spelled bytes all size =
+    ap (option_and_then whole_block) (spelled_at-spelled bytes all) ∙ ap (λ n. cond (n == 256) (Some bytes) None) size
 
 -- What is parsed from the first field, as the calls say it.
-pub block-none : (old : Fields) → ((bytes : List ℕ) (rest : Fields) → AreBytes bytes → length bytes ≤ 256 → old ≡ spelled bytes ∷ rest → ⊥) → first_read block_at old ≡ None
+pub block-none : (old : Fields)
+    → ((bytes : List ℕ) (rest : Fields) → AreBytes bytes → length bytes ≤ 256 → old ≡ spelled bytes ∷ rest → ⊥)
+    → first_read block_at old ≡ None
 block-none [] never = refl
 block-none (field ∷ rest) never = rw (go (block_at field) refl) refl
   where
@@ -38,8 +47,10 @@ block-none (field ∷ rest) never = rw (go (block_at field) refl) refl
         let h = block-only field bytes is in
         absurd (never bytes rest h.all (omega (arith, h.size)) (ap (λ (f : List ℕ). f ∷ rest) h.same))
 
-pub block-short : (old new : Fields) (bytes : List ℕ) → old ≡ spelled bytes ∷ new → AreBytes bytes → (length bytes == 256) ≡ false → first_read block_at old ≡ None
+pub block-short : (old new : Fields) (bytes : List ℕ) → old ≡ spelled bytes ∷ new → AreBytes bytes
+    → (length bytes == 256) ≡ false → first_read block_at old ≡ None
 block-short old new bytes at all short = rw (at, spelled_at-spelled bytes all, short) refl
 
-pub block-taken : (old new : Fields) (bytes : List ℕ) → old ≡ spelled bytes ∷ new → AreBytes bytes → length bytes ≡ 256 → first_read block_at old ≡ Some (bytes, new)
+pub block-taken : (old new : Fields) (bytes : List ℕ) → old ≡ spelled bytes ∷ new → AreBytes bytes
+    → length bytes ≡ 256 → first_read block_at old ≡ Some (bytes, new)
 block-taken old new bytes at all size = rw (at, block-spelled bytes all size) refl

@@ -14,10 +14,13 @@ unfolding each_below
 more lines n = let one : n + 1 ≡ suc n = omega arith in ap (λ (m : ℕ). each_below m lines) one
 
 -- one more number
-pub each-step : (lines : ℕ → Lines) (n k : ℕ) (start so_far next : List ℕ) → so_far ≡ start ++ text_of (each_below n lines) → k ≡ n → next ≡ so_far ++ text_of (lines k) →
+pub each-step : (lines : ℕ → Lines) (n k : ℕ) (start so_far next : List ℕ)
+    → so_far ≡ start ++ text_of (each_below n lines) → k ≡ n → next ≡ so_far ++ text_of (lines k) →
     next ≡ start ++ text_of (each_below (n + 1) lines)
 each-step lines n k start so_far next before same here =
     here
     ∙ ap (λ (x : List ℕ). x ++ text_of (lines k)) before
     ∙ append_assoc start (text_of (each_below n lines)) (text_of (lines k))
-    ∙ ap (λ (x : List ℕ). start ++ x) (sym (text_of-append (each_below n lines) (lines k)) ∙ ap (λ (m : ℕ). text_of (each_below n lines ++ lines m)) same ∙ sym (ap text_of (more lines n)))
+    ∙ ap (λ (x : List ℕ). start ++ x)
+    (sym (text_of-append (each_below n lines) (lines k))
+    ∙ ap (λ (m : ℕ). text_of (each_below n lines ++ lines m)) same ∙ sym (ap text_of (more lines n)))

@@ -29,7 +29,8 @@ pub means-one_piece : (line : List ℕ) (a b : Piece) → DenotesPiece line a �
 means-one_piece line a b h k = let is = (reading-means line a).1 h in let is' = (reading-means line b).1 k in cc
 
 pub means-one_line : (a b : List ℕ) (piece : Piece) → DenotesPiece a piece → DenotesPiece b piece → a ≡ b
-means-one_line a b piece h k = sym (join_with_byte-slice_split 32 a) ∙ ap spaced (h.fields ∙ sym k.fields) ∙ join_with_byte-slice_split 32 b
+means-one_line a b piece h k =
+    sym (join_with_byte-slice_split 32 a) ∙ ap spaced (h.fields ∙ sym k.fields) ∙ join_with_byte-slice_split 32 b
 
 -- The words of a piece have no spaces.
 status-plain : (suspended : Bool) → IsPlain (status_word suspended)
@@ -122,17 +123,61 @@ piece-read (pieces.Lapic vp a) = fields-words _ _ (
     ),
   ),
 )
-piece-read (pieces.Control vp value) = fields-words _ _ (plain_by (codes "register") refl, (digits-plain 10 vp, (plain_by (codes "scontrol") refl, (digits-plain 16 value, tt))))
-piece-read (pieces.Overlay vp kind value) = fields-words _ _ (plain_by (codes "register") refl, (digits-plain 10 vp, (overlay-plain kind, (digits-plain 16 value, tt))))
-piece-read (pieces.Source vp sint value) = fields-words _ _ (plain_by (codes "register") refl, (digits-plain 10 vp, (source-plain sint, (digits-plain 16 value, tt))))
-piece-read (pieces.Guest page at bytes) = fields-words _ _ (plain_by (codes "page") refl, (digits-plain 10 page, (digits-plain 16 at, (spelled-plain bytes.items, tt))))
-piece-read (pieces.Own vp kind at bytes) = fields-words _ _ (plain_by (codes "own") refl, (digits-plain 10 vp, (kind-plain kind, (digits-plain 16 at, (spelled-plain bytes.items, tt)))))
-piece-read (pieces.Port port vp sint (Messages buffers)) = fields-words _ _
-    (plain_by (codes "open") refl, (digits-plain 10 port, (plain_by (codes "message") refl, (digits-plain 10 vp, (digits-plain 10 sint, (digits-plain 10 buffers, tt))))))
-piece-read (pieces.Port port vp sint (Flags base count)) = fields-words _ _
-    (plain_by (codes "open") refl, (digits-plain 10 port, (plain_by (codes "event") refl, (digits-plain 10 vp, (digits-plain 10 sint, (digits-plain 10 base, (digits-plain 10 count, tt)))))))
-piece-read (pieces.Timer vp index config count None) = fields-words _ _
-    (plain_by (codes "timer") refl, (digits-plain 10 vp, (digits-plain 10 index, (digits-plain 16 config, (digits-plain 16 count, (plain_by (codes "stopped") refl, tt))))))
+piece-read (pieces.Control vp value) =
+    fields-words _ _ (
+      plain_by (codes "register") refl,
+      (digits-plain 10 vp, (plain_by (codes "scontrol") refl, (digits-plain 16 value, tt))),
+    )
+piece-read (pieces.Overlay vp kind value) =
+    fields-words _ _ (
+      plain_by (codes "register") refl,
+      (digits-plain 10 vp, (overlay-plain kind, (digits-plain 16 value, tt))),
+    )
+piece-read (pieces.Source vp sint value) =
+    fields-words _ _ (
+      plain_by (codes "register") refl,
+      (digits-plain 10 vp, (source-plain sint, (digits-plain 16 value, tt))),
+    )
+piece-read (pieces.Guest page at bytes) =
+    fields-words _ _ (
+      plain_by (codes "page") refl,
+      (digits-plain 10 page, (digits-plain 16 at, (spelled-plain bytes.items, tt))),
+    )
+piece-read (pieces.Own vp kind at bytes) =
+    fields-words _ _ (
+      plain_by (codes "own") refl,
+      (digits-plain 10 vp, (kind-plain kind, (digits-plain 16 at, (spelled-plain bytes.items, tt)))),
+    )
+piece-read (pieces.Port port vp sint (Messages buffers)) = fields-words _ _ (
+  plain_by (codes "open") refl,
+  (
+    digits-plain 10 port,
+    (
+      plain_by (codes "message") refl,
+      (digits-plain 10 vp, (digits-plain 10 sint, (digits-plain 10 buffers, tt))),
+    ),
+  ),
+)
+piece-read (pieces.Port port vp sint (Flags base count)) = fields-words _ _ (
+  plain_by (codes "open") refl,
+  (
+    digits-plain 10 port,
+    (
+      plain_by (codes "event") refl,
+      (digits-plain 10 vp, (digits-plain 10 sint, (digits-plain 10 base, (digits-plain 10 count, tt)))),
+    ),
+  ),
+)
+piece-read (pieces.Timer vp index config count None) = fields-words _ _ (
+  plain_by (codes "timer") refl,
+  (
+    digits-plain 10 vp,
+    (
+      digits-plain 10 index,
+      (digits-plain 16 config, (digits-plain 16 count, (plain_by (codes "stopped") refl, tt))),
+    ),
+  ),
+)
 piece-read (pieces.Timer vp index config count (Some due)) = fields-words _ _ (
   plain_by (codes "timer") refl,
   (
@@ -153,7 +198,11 @@ piece-read (pieces.Timer vp index config count (Some due)) = fields-words _ _ (
   ),
 )
 piece-read (pieces.Queued vp sint message) = message-read vp sint message
-piece-read (pieces.Slot vp sint ticket) = fields-words _ _ (plain_by (codes "slot") refl, (digits-plain 10 vp, (digits-plain 10 sint, (digits-plain 10 ticket, tt))))
+piece-read (pieces.Slot vp sint ticket) =
+    fields-words _ _ (
+      plain_by (codes "slot") refl,
+      (digits-plain 10 vp, (digits-plain 10 sint, (digits-plain 10 ticket, tt))),
+    )
 piece-read pieces.End = refl
 
 pub piece-means : (piece : Piece) → IsPiece piece → DenotesPiece (spaced (piece_fields piece)) piece

@@ -1,4 +1,5 @@
--- The image of a board: how its state differs from that of a newly opened one, in lines. Numbers are as in all texts; registers, words and offsets are hexadecimal.
+-- The image of a board: how its state differs from that of a newly opened one, in lines. Numbers are as in all texts;
+-- registers, words and offsets are hexadecimal.
 use Rattle.std.specs.Prelude.{ℕ, zero, suc, ◌+◌, ◌*◌, ◌/◌, ◌%◌, ◌^◌, ◌==◌, ◌&&◌, Bool, List, [], ◌∷◌, ◌++◌, length, replicate, Option, None, Some, is_none, slice_index_or, slice_get, slice_range, codes, decimal, if◌then◌else◌}
 use Rattle.std.specs.Option.{option_map_or}
 use Rattle.std.specs.Str.{bytes_eq}
@@ -42,18 +43,23 @@ moment_lines moment = if moment == 0 then [] else moment_fields moment ∷ []
 
 -- the title, the board line with the next ticket, and the present time
 abbrev pub head_lines : State → Lines
-head_lines s = (codes "image" ∷ codes "1" ∷ []) ∷ item_fields (Opening (processors s) (Some (length s.pages)) s.next_ticket) ∷ moment_lines s.moment
+head_lines s =
+    (codes "image" ∷ codes "1" ∷ []) ∷ item_fields
+    (Opening (processors s) (Some (length s.pages)) s.next_ticket) ∷ moment_lines s.moment
 
 -- a set of vectors, those from 0 on in the first word
 abbrev pub words : Vectors → List (List ℕ)
-words vectors = hex (word_of vectors 0) ∷ hex (word_of vectors 1) ∷ hex (word_of vectors 2) ∷ hex (word_of vectors 3) ∷ []
+words vectors =
+    hex (word_of vectors 0) ∷ hex (word_of vectors 1) ∷ hex (word_of vectors 2) ∷ hex (word_of vectors 3) ∷ []
 
 abbrev pub status_word : Bool → List ℕ
 status_word suspended = if suspended then codes "suspended" else codes "running"
 
 -- a local APIC: IRR, ISR, TPR, and whether the processor is suspended
 abbrev pub lapic_line : Processor → Apic → List (List ℕ)
-lapic_line p a = codes "lapic" ∷ decimal p ∷ words a.requested ++ (words a.in_service ++ (hex a.task_priority ∷ status_word a.suspended ∷ []))
+lapic_line p a =
+    codes "lapic" ∷ decimal p ∷ words a.requested
+    ++ (words a.in_service ++ (hex a.task_priority ∷ status_word a.suspended ∷ []))
 
 abbrev pub lapic_lines : State → Processor → Lines
 lapic_lines s p = lapic_line p (apic_of s p) ∷ []
@@ -73,7 +79,8 @@ source_lines s p i = changed_line p (source_name i) (source_of (regs_of s p) i) 
 
 abbrev pub register_lines : State → Processor → Lines
 register_lines s p = changed_line p (codes "scontrol") (regs_of s p).control 0 ++
-    (changed_line p (codes "siefp") (regs_of s p).sief 0 ++ (changed_line p (codes "simp") (regs_of s p).sim 0 ++ each_below 16 (source_lines s p)))
+    (changed_line p (codes "siefp") (regs_of s p).sief 0
+    ++ (changed_line p (codes "simp") (regs_of s p).sim 0 ++ each_below 16 (source_lines s p)))
 
 abbrev pub kind_word : Kind → List ℕ
 kind_word kind.Sim = codes "sim"
@@ -125,7 +132,8 @@ timer_fields t config count due = codes "timer" ∷ decimal t.0 ∷ decimal t.1 
 
 -- a timer, unless it is idle
 abbrev pub timer_line : TimerId → ℕ → ℕ → Option ℕ → Lines
-timer_line t config count due = if (config == 0) && ((count == 0) && is_none due) then [] else timer_fields t config count due ∷ []
+timer_line t config count due =
+    if (config == 0) && ((count == 0) && is_none due) then [] else timer_fields t config count due ∷ []
 
 abbrev pub timer_lines : State → Processor → ℕ → Lines
 timer_lines s p index = let x = timer_in (bank_of s) (p, index) in timer_line (p, index) x.config x.count x.due

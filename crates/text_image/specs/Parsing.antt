@@ -34,15 +34,27 @@ abbrev pub with_vectors : List ℕ → Fields → Option (Vectors × Fields)
 with_vectors words fields = option_map (λ (vectors : Vectors). (vectors, fields)) (from_words words)
 
 abbrev pub read_vectors : Fields → Option (Vectors × Fields)
-read_vectors = take_then hex_u64_at (λ a. take_then hex_u64_at (λ b. take_then hex_u64_at (λ c. take_then hex_u64_at (λ d. with_vectors (a ∷ b ∷ c ∷ d ∷ [])))))
+read_vectors =
+    take_then hex_u64_at (λ a.
+    take_then hex_u64_at (λ b.
+    take_then hex_u64_at (λ c. take_then hex_u64_at (λ d. with_vectors (a ∷ b ∷ c ∷ d ∷ [])))))
 
 -- what is parsed first, and then what is parsed from the fields after it
 abbrev pub read_then : {A B : Type 0} → (Fields → Option (B × Fields)) → (B → Fields → Option A) → Fields → Option A
 read_then {A} {B} read next fields = option_and_then (λ (p : B × Fields). next p.0 p.1) (read fields)
 
 abbrev pub parse_lapic : Fields → Option Piece
-parse_lapic = take_then u8_at (λ vp. read_then read_vectors (λ requested. read_then read_vectors (λ in_service. take_then hex_u8_at (λ task_priority. take_then status_at (λ suspended.
-    none_left (pieces.Lapic vp (record { requested = requested; in_service = in_service; task_priority = task_priority; suspended = suspended })))))))
+parse_lapic =
+    take_then u8_at (λ vp. read_then read_vectors
+    (λ requested. read_then read_vectors
+    (λ in_service. take_then hex_u8_at (λ task_priority. take_then status_at (λ suspended.
+    none_left (pieces.Lapic vp
+    (record {
+      requested = requested;
+      in_service = in_service;
+      task_priority = task_priority;
+      suspended = suspended;
+    })))))))
 
 -- A register, by its name.
 abbrev pub source_at : List ℕ → Option ℕ
@@ -85,10 +97,16 @@ abbrev pub block_at : List ℕ → Option (List ℕ)
 block_at text = option_and_then whole_block (spelled_at text)
 
 abbrev pub parse_guest : Fields → Option Piece
-parse_guest = take_then u8_at (λ page. take_then offset_at (λ at. take_then block_at (λ bytes. none_left (pieces.Guest page at (record { items = bytes })))))
+parse_guest =
+    take_then u8_at (λ page.
+    take_then offset_at (λ at.
+    take_then block_at (λ bytes. none_left (pieces.Guest page at (record { items = bytes })))))
 
 abbrev pub parse_own : Fields → Option Piece
-parse_own = take_then u8_at (λ vp. take_then kind_at (λ kind. take_then offset_at (λ at. take_then block_at (λ bytes. none_left (pieces.Own vp kind at (record { items = bytes }))))))
+parse_own = take_then u8_at
+    (λ vp. take_then kind_at
+    (λ kind. take_then offset_at
+    (λ at. take_then block_at (λ bytes. none_left (pieces.Own vp kind at (record { items = bytes }))))))
 
 -- An open port, as the event that opens it.
 abbrev pub port_piece : Event → Option Piece
@@ -110,18 +128,24 @@ parse_due (word ∷ fields) =
     else None
 
 abbrev pub parse_timer : Fields → Option Piece
-parse_timer = take_then u8_at (λ vp. take_then u8_at (λ index. take_then hex_u64_at (λ config. take_then hex_u64_at (λ count fields.
+parse_timer =
+    take_then u8_at (λ vp. take_then u8_at
+    (λ index. take_then hex_u64_at (λ config. take_then hex_u64_at (λ count fields.
     option_map (pieces.Timer vp index config count) (parse_due fields)))))
 
 -- A queued message.
 abbrev pub parse_posted : Ticket → Fields → Option Message
-parse_posted ticket = take_then u8_at (λ port. take_then hex_u32_at (λ kind. take_then (bytes_at 240) (λ payload. none_left (FromPort ticket port kind (record { items = payload })))))
+parse_posted ticket =
+    take_then u8_at (λ port.
+    take_then hex_u32_at (λ kind.
+    take_then (bytes_at 240) (λ payload. none_left (FromPort ticket port kind (record { items = payload })))))
 
 abbrev pub read_timer : Fields → Option (TimerId × Fields)
 read_timer = take_then (decimal_at 63) (λ vp. take_then (decimal_at 3) (λ index fields. Some ((vp, index), fields)))
 
 abbrev pub parse_expired : Ticket → Fields → Option Message
-parse_expired ticket = read_then read_timer (λ timer. take_then u64_at (λ expiration. none_left (FromTimer ticket timer expiration)))
+parse_expired ticket =
+    read_then read_timer (λ timer. take_then u64_at (λ expiration. none_left (FromTimer ticket timer expiration)))
 
 abbrev pub parse_origin : Ticket → Fields → Option Message
 parse_origin ticket [] = None
@@ -131,10 +155,14 @@ parse_origin ticket (word ∷ fields) =
     else None
 
 abbrev pub parse_message : Fields → Option Piece
-parse_message = take_then u8_at (λ vp. take_then u8_at (λ sint. take_then u64_at (λ ticket fields. option_map (pieces.Queued vp sint) (parse_origin ticket fields))))
+parse_message =
+    take_then u8_at (λ vp. take_then u8_at
+    (λ sint. take_then u64_at (λ ticket fields. option_map (pieces.Queued vp sint) (parse_origin ticket fields))))
 
 abbrev pub parse_slot : Fields → Option Piece
-parse_slot = take_then u8_at (λ vp. take_then u8_at (λ sint. take_then u64_at (λ ticket. none_left (pieces.Slot vp sint ticket))))
+parse_slot =
+    take_then u8_at (λ vp. take_then u8_at
+    (λ sint. take_then u64_at (λ ticket. none_left (pieces.Slot vp sint ticket))))
 
 abbrev pub parse_end : Fields → Option Piece
 parse_end = none_left pieces.End

@@ -1,4 +1,5 @@
--- What the lines of an image denote: a line denotes a piece iff its fields, separated by single spaces, are the piece's, as an image has them.
+-- What the lines of an image denote: a line denotes a piece iff its fields, separated by single spaces, are the
+-- piece's, as an image has them.
 use Rattle.std.specs.Prelude.{◌≡◌, ℕ, ◌<◌, ◌^◌, List, length, IfSome, codes}
 use Rattle.text_base.specs.Numbers.{AreBytes}
 use Rattle.text_base.specs.Fields.{fields_of}
@@ -44,7 +45,8 @@ IsPiece (pieces.Source vp sint value) = (vp < 256) × (sint < 16) × (value < 2 
 IsPiece (pieces.Guest page at bytes) = (page < 256) × IsPageBlock at bytes.items
 IsPiece (pieces.Own vp kind at bytes) = (vp < 256) × IsPageBlock at bytes.items
 IsPiece (pieces.Port port vp sint shape) = (port < 256) × (vp < 256) × (sint < 256) × IsShape shape
-IsPiece (pieces.Timer vp index config count due) = (vp < 256) × (index < 256) × (config < 2 ^ 64) × (count < 2 ^ 64) × IfSome due (λ d. d < 2 ^ 128)
+IsPiece (pieces.Timer vp index config count due) =
+    (vp < 256) × (index < 256) × (config < 2 ^ 64) × (count < 2 ^ 64) × IfSome due (λ d. d < 2 ^ 128)
 IsPiece (pieces.Queued vp sint message) = (vp < 256) × (sint < 256) × HasMessageRanges message
 IsPiece (pieces.Slot vp sint ticket) = (vp < 256) × (sint < 256) × (ticket < 2 ^ 64)
 IsPiece pieces.End = Unit {0}

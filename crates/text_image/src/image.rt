@@ -50,7 +50,8 @@ fn put_opening<S: Sink>(
     pages: u8,
     next_ticket: Ticket,
 ) -> Result<(), S::Error>
-    ensures { OnOk result (S.text out.new ≡ S.text out.old ++ line_of (item_fields (Opening processors (Some pages) next_ticket))) }
+    ensures { OnOk result (S.text out.new
+        ≡ S.text out.old ++ line_of (item_fields (Opening processors (Some pages) next_ticket))) }
 {
     out.put(b"board ")?;
     put_decimal(out, processors)?;
@@ -75,7 +76,8 @@ fn put_moment<S: Sink>(out: &mut S, moment: Moment) -> Result<(), S::Error>
 
 /// Appends the open ports.
 fn put_ports<S: Sink>(out: &mut S, board: &Board) -> Result<(), S::Error>
-    ensures { OnOk result (S.text out.new ≡ S.text out.old ++ text_of (each_below (length board.now.state.ports) (port_lines board.now.state))) }
+    ensures { OnOk result (S.text out.new
+        ≡ S.text out.old ++ text_of (each_below (length board.now.state.ports) (port_lines board.now.state))) }
 {
     board.facts();
     // 256 ports are more than a u8 counts

@@ -13,7 +13,8 @@ use text_lines::{put_data, put_decimal_field, put_hex_field};
 
 /// Appends the queues of each processor.
 pub(crate) fn put_queues<S: Sink>(out: &mut S, board: &Board) -> Result<(), S::Error>
-    ensures { OnOk result (S.text out.new ≡ S.text out.old ++ text_of (each_below (processors board.now.state) (queues_lines board.now.state))) }
+    ensures { OnOk result (S.text out.new
+        ≡ S.text out.old ++ text_of (each_below (processors board.now.state) (queues_lines board.now.state))) }
 {
     for number in 0..board.processors() {
         let vp = vp_of(number);
@@ -119,7 +120,8 @@ fn put_expired<S: Sink>(out: &mut S, timer: TimerId, expiration: Moment) -> Resu
 
 /// Appends the tickets in the slots of each processor.
 pub(crate) fn put_slots<S: Sink>(out: &mut S, board: &Board) -> Result<(), S::Error>
-    ensures { OnOk result (S.text out.new ≡ S.text out.old ++ text_of (each_below (processors board.now.state) (slots_lines board.now.state))) }
+    ensures { OnOk result (S.text out.new
+        ≡ S.text out.old ++ text_of (each_below (processors board.now.state) (slots_lines board.now.state))) }
 {
     for number in 0..board.processors() {
         let vp = vp_of(number);

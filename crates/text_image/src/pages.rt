@@ -29,7 +29,8 @@ pub(crate) enum PageName {
 
 /// Appends the guest pages.
 pub(crate) fn put_guest_pages<S: Sink>(out: &mut S, board: &Board) -> Result<(), S::Error>
-    ensures { OnOk result (S.text out.new ≡ S.text out.old ++ text_of (each_below (length board.now.state.pages) (guest_lines board.now.state))) }
+    ensures { OnOk result (S.text out.new
+        ≡ S.text out.old ++ text_of (each_below (length board.now.state.pages) (guest_lines board.now.state))) }
 {
     for number in 0..board.pages() {
         put_guest_page(out, board, number)?;
@@ -50,7 +51,8 @@ fn put_guest_page<S: Sink>(out: &mut S, board: &Board, number: u8) -> Result<(),
 
 /// Appends the pages of the processors.
 pub(crate) fn put_own_pages<S: Sink>(out: &mut S, board: &Board) -> Result<(), S::Error>
-    ensures { OnOk result (S.text out.new ≡ S.text out.old ++ text_of (each_below (processors board.now.state) (own_lines board.now.state))) }
+    ensures { OnOk result (S.text out.new
+        ≡ S.text out.old ++ text_of (each_below (processors board.now.state) (own_lines board.now.state))) }
 {
     for number in 0..board.processors() {
         let vp = vp_of(number);
@@ -109,7 +111,8 @@ fn put_block_line<S: Sink>(
     at: usize,
     bytes: &[u8],
 ) -> Result<(), S::Error>
-    ensures { OnOk result (S.text out.new ≡ S.text out.old ++ line_of (name_fields name.now ++ (hex at ∷ spelled bytes.now ∷ []))) }
+    ensures { OnOk result (S.text out.new
+        ≡ S.text out.old ++ line_of (name_fields name.now ++ (hex at ∷ spelled bytes.now ∷ []))) }
 {
     put_name(out, name)?;
     put_hex_field(out, at as u64)?;

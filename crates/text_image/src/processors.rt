@@ -18,7 +18,8 @@ const MASKED: u64 = 0x10000;
 
 /// Appends the local APIC of each processor.
 pub(crate) fn put_lapics<S: Sink>(out: &mut S, board: &Board) -> Result<(), S::Error>
-    ensures { OnOk result (S.text out.new ≡ S.text out.old ++ text_of (each_below (processors board.now.state) (lapic_lines board.now.state))) }
+    ensures { OnOk result (S.text out.new
+        ≡ S.text out.old ++ text_of (each_below (processors board.now.state) (lapic_lines board.now.state))) }
 {
     for number in 0..board.processors() {
         let vp = vp_of(number);
@@ -64,7 +65,8 @@ fn put_status<S: Sink>(out: &mut S, is_suspended: bool) -> Result<(), S::Error>
 
 /// Appends the SynIC registers of each processor.
 pub(crate) fn put_registers<S: Sink>(out: &mut S, board: &Board) -> Result<(), S::Error>
-    ensures { OnOk result (S.text out.new ≡ S.text out.old ++ text_of (each_below (processors board.now.state) (register_lines board.now.state))) }
+    ensures { OnOk result (S.text out.new
+        ≡ S.text out.old ++ text_of (each_below (processors board.now.state) (register_lines board.now.state))) }
 {
     for number in 0..board.processors() {
         let vp = vp_of(number);
@@ -105,7 +107,8 @@ fn put_register<S: Sink>(out: &mut S, vp: Vp, name: &[u8], value: u64) -> Result
 /// Appends the sources of a processor.
 fn put_sources<S: Sink>(out: &mut S, board: &Board, vp: Vp) -> Result<(), S::Error>
     requires { vp < processors board.now.state }
-    ensures { OnOk result (S.text out.new ≡ S.text out.old ++ text_of (each_below 16 (source_lines board.now.state vp))) }
+    ensures { OnOk result (S.text out.new
+        ≡ S.text out.old ++ text_of (each_below 16 (source_lines board.now.state vp))) }
 {
     for number in 0..16 {
         let sint = sint_of(number);

@@ -40,7 +40,8 @@ struct Saved<'a, W: Write> {
 /// Writes the image of a board, and flushes.
 fn put_through<'a, W: Write>(board: &Board, writer: &'a mut W) -> Saved<'a, W>
     ensures name { result.writer.ghost_name ≡ writer.entry.ghost_name }
-    ensures written { Holds (W.contents writer.entry.now) (W.contents result.writer.now) (image board.now.state) (not result.whole) }
+    ensures written { Holds (W.contents writer.entry.now) (W.contents result.writer.now) (image board.now.state)
+        (not result.whole) }
 {
     let mut output = Output::new(writer);
     match put_image(&mut output, board) {

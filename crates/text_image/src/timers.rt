@@ -16,7 +16,8 @@ const WORD: u128 = 1 << 64;
 
 /// Appends the timers of each processor.
 pub(crate) fn put_timers<S: Sink>(out: &mut S, board: &Board) -> Result<(), S::Error>
-    ensures { OnOk result (S.text out.new ≡ S.text out.old ++ text_of (each_below (processors board.now.state) (timers_lines board.now.state))) }
+    ensures { OnOk result (S.text out.new
+        ≡ S.text out.old ++ text_of (each_below (processors board.now.state) (timers_lines board.now.state))) }
 {
     for number in 0..board.processors() {
         let vp = vp_of(number);

@@ -13,8 +13,10 @@ bytes_text [] = codes "-"
 bytes_text (b ∷ bytes) = spelled (b ∷ bytes)
 
 abbrev pub event_fields : Event → List (List ℕ)
-event_fields (OpenPort port vp sint (Messages buffers)) = codes "open" ∷ decimal port ∷ codes "message" ∷ decimal vp ∷ decimal sint ∷ decimal buffers ∷ []
-event_fields (OpenPort port vp sint (Flags base count)) = codes "open" ∷ decimal port ∷ codes "event" ∷ decimal vp ∷ decimal sint ∷ decimal base ∷ decimal count ∷ []
+event_fields (OpenPort port vp sint (Messages buffers)) =
+    codes "open" ∷ decimal port ∷ codes "message" ∷ decimal vp ∷ decimal sint ∷ decimal buffers ∷ []
+event_fields (OpenPort port vp sint (Flags base count)) =
+    codes "open" ∷ decimal port ∷ codes "event" ∷ decimal vp ∷ decimal sint ∷ decimal base ∷ decimal count ∷ []
 event_fields (ClosePort port) = codes "close" ∷ decimal port ∷ []
 event_fields (Write vp register value) = codes "write" ∷ decimal vp ∷ hex register ∷ hex value ∷ []
 event_fields (Read vp register) = codes "read" ∷ decimal vp ∷ hex register ∷ []

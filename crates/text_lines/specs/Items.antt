@@ -19,7 +19,8 @@ pages_field None = codes "sparse"
 pages_field (Some pages) = decimal pages
 
 abbrev pub item_fields : Item → List (List ℕ)
-item_fields (Opening processors pages ticket) = codes "board" ∷ decimal processors ∷ pages_field pages ∷ decimal ticket ∷ []
+item_fields (Opening processors pages ticket) =
+    codes "board" ∷ decimal processors ∷ pages_field pages ∷ decimal ticket ∷ []
 item_fields (Performs event) = event_fields event
 item_fields Summary = codes "summary" ∷ []
 

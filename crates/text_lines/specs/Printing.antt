@@ -36,15 +36,21 @@ reply_fields replies.GeneralProtection = codes "=" ∷ codes "general" ∷ codes
 reply_fields (replies.Refused refusal) = codes "=" ∷ codes "refused" ∷ decimal (refusal_number refusal) ∷ []
 
 abbrev pub notice_fields : Notice → List (List ℕ)
-notice_fields (notices.Accepted vp sint ticket) = codes "." ∷ codes "accepted" ∷ decimal ticket ∷ decimal vp ∷ decimal sint ∷ []
-notice_fields (notices.Placed vp sint ticket) = codes "." ∷ codes "placed" ∷ decimal ticket ∷ decimal vp ∷ decimal sint ∷ []
+notice_fields (notices.Accepted vp sint ticket) =
+    codes "." ∷ codes "accepted" ∷ decimal ticket ∷ decimal vp ∷ decimal sint ∷ []
+notice_fields (notices.Placed vp sint ticket) =
+    codes "." ∷ codes "placed" ∷ decimal ticket ∷ decimal vp ∷ decimal sint ∷ []
 notice_fields (notices.Pending vp sint) = codes "." ∷ codes "pending" ∷ decimal vp ∷ decimal sint ∷ []
 notice_fields (notices.Requested vp vector) = codes "." ∷ codes "requested" ∷ decimal vp ∷ two_digits vector ∷ []
 notice_fields (notices.FlagSet vp sint flag) = codes "." ∷ codes "flag" ∷ decimal vp ∷ decimal sint ∷ decimal flag ∷ []
-notice_fields (notices.Consumed vp sint ticket) = codes "." ∷ codes "consumed" ∷ decimal ticket ∷ decimal vp ∷ decimal sint ∷ []
-notice_fields (notices.Withdrawn vp sint ticket) = codes "." ∷ codes "withdrawn" ∷ decimal ticket ∷ decimal vp ∷ decimal sint ∷ []
-notice_fields (notices.Expired vp index due) = codes "." ∷ codes "expired" ∷ decimal vp ∷ decimal index ∷ decimal due ∷ []
-notice_fields (notices.Skipped vp index count) = codes "." ∷ codes "skipped" ∷ decimal vp ∷ decimal index ∷ decimal count ∷ []
+notice_fields (notices.Consumed vp sint ticket) =
+    codes "." ∷ codes "consumed" ∷ decimal ticket ∷ decimal vp ∷ decimal sint ∷ []
+notice_fields (notices.Withdrawn vp sint ticket) =
+    codes "." ∷ codes "withdrawn" ∷ decimal ticket ∷ decimal vp ∷ decimal sint ∷ []
+notice_fields (notices.Expired vp index due) =
+    codes "." ∷ codes "expired" ∷ decimal vp ∷ decimal index ∷ decimal due ∷ []
+notice_fields (notices.Skipped vp index count) =
+    codes "." ∷ codes "skipped" ∷ decimal vp ∷ decimal index ∷ decimal count ∷ []
 
 -- A summary. Consecutive items are numbered from n on.
 abbrev pub numbered : {A : Type 0} → (ℕ → A → List (List (List ℕ))) → ℕ → List A → List (List (List ℕ))

@@ -27,7 +27,9 @@ take_then {A} {B} read next fields = option_and_then (λ (p : B × Fields). next
 abbrev pub spelled_at : List ℕ → Option (List ℕ)
 spelled_at [] = Some []
 spelled_at (high ∷ []) = None
-spelled_at (high ∷ low ∷ text) = option_and_then (λ (b : ℕ). option_map (λ (bytes : List ℕ). b ∷ bytes) (spelled_at text)) (byte_at (high ∷ low ∷ []))
+spelled_at (high ∷ low ∷ text) =
+    option_and_then (λ (b : ℕ). option_map (λ (bytes : List ℕ). b ∷ bytes) (spelled_at text))
+    (byte_at (high ∷ low ∷ []))
 
 -- at least one byte, and at most that many
 abbrev pub some_bytes : ℕ → List ℕ → Option (List ℕ)
@@ -50,7 +52,8 @@ TakesBytes most (Some bytes) old new = first_read (bytes_at most) old ≡ Some (
 
 -- a number of pages, or the word of a sparse board
 abbrev pub pages_at : List ℕ → Option (Option ℕ)
-pages_at text = if bytes_eq text (codes "sparse") then Some None else option_map (λ (pages : ℕ). Some pages) (decimal_at 255 text)
+pages_at text =
+    if bytes_eq text (codes "sparse") then Some None else option_map (λ (pages : ℕ). Some pages) (decimal_at 255 text)
 
 -- no field is left
 abbrev pub none_left : {A : Type 0} → A → Fields → Option A
@@ -81,10 +84,15 @@ vector_at text = option_and_then from_16 (byte_at text)
 
 -- The fields after the first word.
 abbrev pub parse_messages : ℕ → Fields → Option Event
-parse_messages port = take_then u8_at (λ vp. take_then u8_at (λ sint. take_then u8_at (λ buffers. none_left (OpenPort port vp sint (Messages buffers)))))
+parse_messages port =
+    take_then u8_at (λ vp. take_then u8_at
+    (λ sint. take_then u8_at (λ buffers. none_left (OpenPort port vp sint (Messages buffers)))))
 
 abbrev pub parse_flags : ℕ → Fields → Option Event
-parse_flags port = take_then u8_at (λ vp. take_then u8_at (λ sint. take_then u16_at (λ base. take_then u16_at (λ count. none_left (OpenPort port vp sint (Flags base count))))))
+parse_flags port =
+    take_then u8_at (λ vp. take_then u8_at
+    (λ sint. take_then u16_at
+    (λ base. take_then u16_at (λ count. none_left (OpenPort port vp sint (Flags base count))))))
 
 abbrev pub parse_shape : ℕ → Fields → Option Event
 parse_shape port [] = None
@@ -100,13 +108,18 @@ abbrev pub parse_close : Fields → Option Event
 parse_close = take_then u8_at (λ port. none_left (ClosePort port))
 
 abbrev pub parse_post : Fields → Option Event
-parse_post = take_then u8_at (λ port. take_then hex_u32_at (λ kind. take_then (bytes_at 240) (λ payload. none_left (Post port kind (record { items = payload })))))
+parse_post =
+    take_then u8_at (λ port.
+    take_then hex_u32_at (λ kind.
+    take_then (bytes_at 240) (λ payload. none_left (Post port kind (record { items = payload })))))
 
 abbrev pub parse_signal : Fields → Option Event
 parse_signal = take_then u8_at (λ port. take_then u16_at (λ flag. none_left (Signal port flag)))
 
 abbrev pub parse_store : Fields → Option Event
-parse_store = take_then hex_u64_at (λ address. take_then (bytes_at 8) (λ bytes. none_left (Store address (record { items = bytes }))))
+parse_store =
+    take_then hex_u64_at (λ address.
+    take_then (bytes_at 8) (λ bytes. none_left (Store address (record { items = bytes }))))
 
 abbrev pub parse_load : Fields → Option Event
 parse_load = take_then hex_u64_at (λ address. take_then u8_at (λ count. none_left (Load address count)))
@@ -115,7 +128,9 @@ abbrev pub parse_tick : Fields → Option Event
 parse_tick = take_then u64_at (λ moment. none_left (Tick moment))
 
 abbrev pub parse_write : Fields → Option Event
-parse_write = take_then u8_at (λ vp. take_then hex_u32_at (λ register. take_then hex_u64_at (λ value. none_left (Write vp register value))))
+parse_write =
+    take_then u8_at (λ vp. take_then hex_u32_at
+    (λ register. take_then hex_u64_at (λ value. none_left (Write vp register value))))
 
 abbrev pub parse_read : Fields → Option Event
 parse_read = take_then u8_at (λ vp. take_then hex_u32_at (λ register. none_left (Read vp register)))
@@ -124,7 +139,8 @@ abbrev pub parse_assert : Fields → Option Event
 parse_assert = take_then u8_at (λ vp. take_then vector_at (λ vector. none_left (Assert vp vector)))
 
 abbrev pub parse_absorb : Fields → Option Event
-parse_absorb = take_then u8_at (λ vp. take_then u8_at (λ part. take_then hex_u64_at (λ bits. none_left (Absorb vp part bits))))
+parse_absorb =
+    take_then u8_at (λ vp. take_then u8_at (λ part. take_then hex_u64_at (λ bits. none_left (Absorb vp part bits))))
 
 -- a processor and no further field
 abbrev pub parse_processor : Fields → Option ℕ
@@ -147,7 +163,9 @@ parse_send = take_then vector_at (λ vector. take_then hex_u64_at (λ mask. none
 
 -- the processors, the pages and the first ticket of a board line
 abbrev pub parse_opening : Fields → Option (ℕ × Option ℕ × ℕ)
-parse_opening = take_then u8_at (λ processors. take_then pages_at (λ pages. take_then u64_at (λ ticket. none_left (processors, pages, ticket))))
+parse_opening =
+    take_then u8_at (λ processors.
+    take_then pages_at (λ pages. take_then u64_at (λ ticket. none_left (processors, pages, ticket))))
 
 -- the event that the fields denote
 abbrev pub parse_event : Fields → Option Event

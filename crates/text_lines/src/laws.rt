@@ -35,5 +35,6 @@ pub fn one_item()
 /// The sizes that scripts and traces accept are those that a board can be opened with: a sparse one
 /// where no pages are given.
 pub fn sizes_are_those_of_open()
-    ensures { (processors : ℕ) (pages : Option ℕ) → IsTrue (are_sizes processors pages) ↔ AreBoardSizes processors pages }
+    ensures { (processors : ℕ) (pages : Option ℕ)
+        → IsTrue (are_sizes processors pages) ↔ AreBoardSizes processors pages }
 {}

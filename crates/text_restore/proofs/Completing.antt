@@ -80,11 +80,14 @@ not-later pieces.End h later = omega (arith, later)
 not-later (pieces.Queued p i m) h later = omega (arith, later, low (pieces.Queued p i m) tt h)
 not-later x h later = omega (arith, later, low x tt h)
 
-stopped : (s t : State) (last lapics : ℕ) (line : List ℕ) (new : Stage) → last ≡ place 10 0 0 0 → Follows (Body s last lapics) line new → ⊥
-stopped s t last lapics line new is h = not-later h.0 (in-range line h.0 h.1) (subst (λ (k : ℕ). IsLater k h.0) is h.2.later)
+stopped : (s t : State) (last lapics : ℕ) (line : List ℕ) (new : Stage) → last ≡ place 10 0 0 0
+    → Follows (Body s last lapics) line new → ⊥
+stopped s t last lapics line new is h =
+    not-later h.0 (in-range line h.0 h.1) (subst (λ (k : ℕ). IsLater k h.0) is h.2.later)
 
 -- No line comes after the end.
-pub no-more : (stage : Stage) (s : State) (line : List ℕ) (new : Stage) → IsComplete stage s → Follows stage line new → ⊥
+pub no-more : (stage : Stage) (s : State) (line : List ℕ) (new : Stage) → IsComplete stage s → Follows stage line new
+    → ⊥
 no-more stage s line new complete h =
     stopped s s (place 10 0 0 0) complete.0 line new refl (subst (λ (x : Stage). Follows x line new) complete.1 h)
 
@@ -93,18 +96,21 @@ pub ended : (s : State) (last lapics : ℕ) → has_ended (Body s last lapics) �
 ended s last lapics is = (lapics, ap (λ (k : ℕ). Body s k lapics) (eqb-true last (place 10 0 0 0) is))
 
 pub not-ended : (stage : Stage) (s : State) → has_ended stage ≡ false → IsComplete stage s → ⊥
-not-ended stage s off complete = let yes : has_ended stage ≡ true = ap has_ended complete.1 in let both : true ≡ false = sym yes ∙ off in cc
+not-ended stage s off complete =
+    let yes : has_ended stage ≡ true = ap has_ended complete.1 in let both : true ≡ false = sym yes ∙ off in cc
 
 pub has-board : (stage : Stage) → has_ended stage ≡ true → ((s : State) → IsComplete stage s → ⊥) → ⊥
 has-board (Body s last lapics) is none = none s (ended s last lapics is)
 has-board stage is none = cc
 
 -- A piece leaves the number of processors unchanged.
-either-kept : (n : ℕ) (b : Bool) (x y : Outcome) → processors x.0 ≡ n → processors y.0 ≡ n → processors (cond b x y).0 ≡ n
+either-kept : (n : ℕ) (b : Bool) (x y : Outcome) → processors x.0 ≡ n → processors y.0 ≡ n
+    → processors (cond b x y).0 ≡ n
 either-kept n true x y h k = h
 either-kept n false x y h k = k
 
-refused-kept : (n : ℕ) (o : Option Refusal) (f : Refusal → Outcome) (y : Outcome) → ((r : Refusal) → processors (f r).0 ≡ n) → processors y.0 ≡ n → processors (option_map_or f o y).0 ≡ n
+refused-kept : (n : ℕ) (o : Option Refusal) (f : Refusal → Outcome) (y : Outcome)
+    → ((r : Refusal) → processors (f r).0 ≡ n) → processors y.0 ≡ n → processors (option_map_or f o y).0 ≡ n
 refused-kept n None f y h k = k
 refused-kept n (Some r) f y h k = h r
 
@@ -114,7 +120,8 @@ kept s (pieces.Lapic p a) t h = ap processors h.1 ∙ length-set s.apics p a
 kept s (pieces.Control p value) t h = ap processors h.2
 kept s (pieces.Overlay p kind value) t h = ap processors h.2
 kept s (pieces.Source p i value) t h =
-    ap (λ (o : Outcome). processors o.0) h.2 ∙ either-kept (processors s) (is_refused (register.Source i) value) _ _ refl refl
+    ap (λ (o : Outcome). processors o.0) h.2
+    ∙ either-kept (processors s) (is_refused (register.Source i) value) _ _ refl refl
 kept s (pieces.Guest n at bytes) t h = ap processors h.2
 kept s (pieces.Own p kind at bytes) t h = ap processors h.3
 kept s (pieces.Port n p i shape) t h =
@@ -125,7 +132,8 @@ kept s (pieces.Slot p i ticket) t h = ap processors h.3
 kept s pieces.End t h = ap processors h
 
 -- after the local APICs
-settled : (s t : State) (last lapics at : ℕ) → IsOpenBody s last lapics → processors t ≡ processors s → lapics ≡ processors s → at < place 10 0 0 0 → IsOpenBody t at lapics
+settled : (s t : State) (last lapics at : ℕ) → IsOpenBody s last lapics → processors t ≡ processors s
+    → lapics ≡ processors s → at < place 10 0 0 0 → IsOpenBody t at lapics
 settled s t last lapics at h same all under = record {
   bound = omega (arith, same, h.bound);
   few = omega (arith, same, all);
@@ -133,7 +141,8 @@ settled s t last lapics at h same all under = record {
   before = under;
 }
 
-after-piece : (s : State) (last lapics : ℕ) (x : Piece) (t : State) → IsOpenBody s last lapics → IsInner x → IsPiece x → IsInTurn (processors s) lapics x → Restores s x t →
+after-piece : (s : State) (last lapics : ℕ) (x : Piece) (t : State) → IsOpenBody s last lapics → IsInner x → IsPiece x
+    → IsInTurn (processors s) lapics x → Restores s x t →
     processors t ≡ processors s → IsOpenBody t (place_of x) (lapics_after lapics x)
 after-piece s last lapics (pieces.Moment m) t h inner fits turn restores same = record {
   bound = omega (arith, same, h.bound);
@@ -148,32 +157,51 @@ after-piece s last lapics (pieces.Lapic p a) t h inner fits turn restores same =
   before = omega (arith, fits.0);
 }
 after-piece s last lapics pieces.End t h inner fits turn restores same = absurd inner
-after-piece s last lapics (pieces.Queued p i m) t h inner fits turn restores same = settled s t last lapics _ h same turn (low (pieces.Queued p i m) tt fits)
-after-piece s last lapics (pieces.Control p value) t h inner fits turn restores same = settled s t last lapics _ h same turn (low (pieces.Control p value) tt fits)
-after-piece s last lapics (pieces.Overlay p kind value) t h inner fits turn restores same = settled s t last lapics _ h same turn (low (pieces.Overlay p kind value) tt fits)
-after-piece s last lapics (pieces.Source p i value) t h inner fits turn restores same = settled s t last lapics _ h same turn (low (pieces.Source p i value) tt fits)
-after-piece s last lapics (pieces.Guest n at bytes) t h inner fits turn restores same = settled s t last lapics _ h same turn (low (pieces.Guest n at bytes) tt fits)
-after-piece s last lapics (pieces.Own p kind at bytes) t h inner fits turn restores same = settled s t last lapics _ h same turn (low (pieces.Own p kind at bytes) tt fits)
-after-piece s last lapics (pieces.Port n p i shape) t h inner fits turn restores same = settled s t last lapics _ h same turn (low (pieces.Port n p i shape) tt fits)
-after-piece s last lapics (pieces.Timer p i config count due) t h inner fits turn restores same = settled s t last lapics _ h same turn (low (pieces.Timer p i config count due) tt fits)
-after-piece s last lapics (pieces.Slot p i ticket) t h inner fits turn restores same = settled s t last lapics _ h same turn (low (pieces.Slot p i ticket) tt fits)
+after-piece s last lapics (pieces.Queued p i m) t h inner fits turn restores same =
+    settled s t last lapics _ h same turn (low (pieces.Queued p i m) tt fits)
+after-piece s last lapics (pieces.Control p value) t h inner fits turn restores same =
+    settled s t last lapics _ h same turn (low (pieces.Control p value) tt fits)
+after-piece s last lapics (pieces.Overlay p kind value) t h inner fits turn restores same =
+    settled s t last lapics _ h same turn (low (pieces.Overlay p kind value) tt fits)
+after-piece s last lapics (pieces.Source p i value) t h inner fits turn restores same =
+    settled s t last lapics _ h same turn (low (pieces.Source p i value) tt fits)
+after-piece s last lapics (pieces.Guest n at bytes) t h inner fits turn restores same =
+    settled s t last lapics _ h same turn (low (pieces.Guest n at bytes) tt fits)
+after-piece s last lapics (pieces.Own p kind at bytes) t h inner fits turn restores same =
+    settled s t last lapics _ h same turn (low (pieces.Own p kind at bytes) tt fits)
+after-piece s last lapics (pieces.Port n p i shape) t h inner fits turn restores same =
+    settled s t last lapics _ h same turn (low (pieces.Port n p i shape) tt fits)
+after-piece s last lapics (pieces.Timer p i config count due) t h inner fits turn restores same =
+    settled s t last lapics _ h same turn (low (pieces.Timer p i config count due) tt fits)
+after-piece s last lapics (pieces.Slot p i ticket) t h inner fits turn restores same =
+    settled s t last lapics _ h same turn (low (pieces.Slot p i ticket) tt fits)
 
 -- a stage after a piece is open, or the piece is the end
-after-any : (s : State) (last lapics : ℕ) (x : Piece) (t : State) → IsOpenBody s last lapics → IsPiece x → IsInTurn (processors s) lapics x → Restores s x t →
+after-any : (s : State) (last lapics : ℕ) (x : Piece) (t : State) → IsOpenBody s last lapics → IsPiece x
+    → IsInTurn (processors s) lapics x → Restores s x t →
     has_ended (Body t (place_of x) (lapics_after lapics x)) ≡ false → IsOpenBody t (place_of x) (lapics_after lapics x)
 after-any s last lapics pieces.End t h fits turn restores off = cc
-after-any s last lapics x t h fits turn restores off = after-piece s last lapics x t h tt fits turn restores (kept s x t restores)
+after-any s last lapics x t h fits turn restores off =
+    after-piece s last lapics x t h tt fits turn restores (kept s x t restores)
 
 -- Each line leads to an open stage, or the image is complete.
-pub open-next : (old : Stage) (line : List ℕ) (new : Stage) → IsOpen old → Follows old line new → has_ended new ≡ false → IsOpen new
+pub open-next : (old : Stage) (line : List ℕ) (new : Stage) → IsOpen old → Follows old line new
+    → has_ended new ≡ false → IsOpen new
 open-next Untitled line new from h off = subst IsOpen (sym h.1) tt
 open-next Titled line new from h off = subst IsOpen (sym h.stage) (
     let same : processors (opened h.count h.pages h.ticket) ≡ h.count = length-replicate h.count empty_apic in
-    record { bound = omega (arith, same, h.sizes.processor_bound); few = omega arith; missing = λ more. omega arith; before = omega arith }
+    record {
+      bound = omega (arith, same, h.sizes.processor_bound);
+      few = omega arith;
+      missing = λ more. omega arith;
+      before = omega arith;
+    }
     )
 open-next (Body s last lapics) line new from h off =
     let stage = h.2.stage in
-    subst IsOpen (sym stage) (after-any s last lapics h.0 h.2.next from (in-range line h.0 h.1) h.2.turn h.2.restores (ap has_ended (sym stage) ∙ off))
+    subst IsOpen (sym stage)
+    (after-any s last lapics h.0 h.2.next from (in-range line h.0 h.1) h.2.turn h.2.restores
+    (ap has_ended (sym stage) ∙ off))
 
 -- lines that complete an image
 pub record Ending (stage : Stage) : Type 0 where
@@ -184,7 +212,8 @@ pub record Ending (stage : Stage) : Type 0 where
   pub leads : Leads stage lines last
   pub complete : IsComplete last state
 
-one-more : (old new : Stage) (fields : List (List ℕ)) → IsWritten fields → Follows old (spaced fields) new → Ending new → Ending old
+one-more : (old new : Stage) (fields : List (List ℕ)) → IsWritten fields → Follows old (spaced fields) new
+    → Ending new → Ending old
 one-more old new fields w follows h = record {
   lines = spaced fields ∷ h.lines;
   each = (w.one, h.each);
@@ -194,7 +223,8 @@ one-more old new fields w follows h = record {
   complete = h.complete;
 }
 
-piece-follows : (s : State) (last lapics : ℕ) (x : Piece) (t : State) → IsPiece x → IsLater last x → IsInTurn (processors s) lapics x → Restores s x t →
+piece-follows : (s : State) (last lapics : ℕ) (x : Piece) (t : State) → IsPiece x → IsLater last x
+    → IsInTurn (processors s) lapics x → Restores s x t →
     Follows (Body s last lapics) (spaced (piece_fields x)) (Body t (place_of x) (lapics_after lapics x))
 piece-follows s last lapics x t fits later turn restores = (
   x,
@@ -209,11 +239,21 @@ no-apic = (none, none, omega arith)
     none v is = let off : true ≡ false = sym is ∙ set.contains-empty nat_cmp v in cc
 
 end-all : (s : State) (last lapics : ℕ) → IsOpenBody s last lapics → lapics ≡ processors s → Ending (Body s last lapics)
-end-all s last lapics h all = one-more (Body s last lapics) (Body s (place_of pieces.End) lapics) (piece_fields pieces.End) (piece-written pieces.End tt)
+end-all s last lapics h all =
+    one-more (Body s last lapics) (Body s (place_of pieces.End) lapics) (piece_fields pieces.End)
+    (piece-written pieces.End tt)
     (piece-follows s last lapics pieces.End s tt h.before all refl)
-    (record { lines = []; each = tt; last = Body s (place_of pieces.End) lapics; state = s; leads = refl; complete = (lapics, refl) })
+    (record {
+      lines = [];
+      each = tt;
+      last = Body s (place_of pieces.End) lapics;
+      state = s;
+      leads = refl;
+      complete = (lapics, refl);
+    })
 
-end-body : (k : ℕ) (s : State) (last lapics : ℕ) → IsOpenBody s last lapics → lapics + k ≡ processors s → Ending (Body s last lapics)
+end-body : (k : ℕ) (s : State) (last lapics : ℕ) → IsOpenBody s last lapics → lapics + k ≡ processors s
+    → Ending (Body s last lapics)
 end-body zero s last lapics h count = end-all s last lapics h (omega (arith, count))
 end-body (suc k) s last lapics h count =
     let x = pieces.Lapic lapics empty_apic in
@@ -222,25 +262,42 @@ end-body (suc k) s last lapics h count =
     let same : processors t ≡ processors s = length-set s.apics lapics empty_apic in
     let on : lapics < processors s = omega (arith, count) in
     let restores : Restores s x t = (on, refl) in
-    one-more (Body s last lapics) (Body t (place_of x) (lapics + 1)) (piece_fields x) (piece-written x fits) (piece-follows s last lapics x t fits (h.missing on) refl restores)
-    (end-body k t (place_of x) (lapics + 1) (after-piece s last lapics x t h tt fits refl restores same) (omega (arith, same, count)))
+    one-more (Body s last lapics) (Body t (place_of x) (lapics + 1)) (piece_fields x) (piece-written x fits)
+    (piece-follows s last lapics x t fits (h.missing on) refl restores)
+    (end-body k t (place_of x) (lapics + 1) (after-piece s last lapics x t h tt fits refl restores same)
+    (omega (arith, same, count)))
 
 titled-ends : Ending Titled
 titled-ends =
     let s = opened 1 1 0 in
-    let fits : IsOpenBody s 0 0 = record { bound = omega (arith, length-replicate 1 empty_apic); few = omega arith; missing = λ more. omega arith; before = omega arith } in
+    let fits : IsOpenBody s 0 0 =
+    record {
+      bound = omega (arith, length-replicate 1 empty_apic);
+      few = omega arith;
+      missing = λ more. omega arith;
+      before = omega arith;
+    } in
     one-more Titled (Body s 0 0) (item_fields (Opening 1 (Some 1) 0)) (board-written 1 (Some 1) 0) (record {
       count = 1;
       pages = 1;
       ticket = 0;
-      item = (item-reading (spaced (item_fields (Opening 1 (Some 1) 0))) (Opening 1 (Some 1) 0)).1 (item-means (Opening 1 (Some 1) 0) (omega arith, omega arith, omega arith));
-      sizes = record { some_processor = omega arith; processor_bound = omega arith; dense_bound = λ some. omega arith; page_bound = omega arith };
+      item = (item-reading (spaced (item_fields (Opening 1 (Some 1) 0))) (Opening 1 (Some 1) 0)).1
+          (item-means (Opening 1 (Some 1) 0) (omega arith, omega arith, omega arith));
+      sizes = record {
+        some_processor = omega arith;
+        processor_bound = omega arith;
+        dense_bound = λ some. omega arith;
+        page_bound = omega arith;
+      };
       stage = refl;
     }) (end-body 1 s 0 0 fits (omega (arith, length-replicate 1 empty_apic)))
 
 -- The lines that lead to an open stage are the first lines of an image.
 pub can-end : (stage : Stage) → IsOpen stage → Ending stage
-can-end Untitled h = one-more Untitled Titled (codes "image" ∷ codes "1" ∷ []) (written _ _ (plain_by (codes "image") refl, (plain_by (codes "1") refl, tt)) (omega arith)) (refl, refl) titled-ends
+can-end Untitled h =
+    one-more Untitled Titled (codes "image" ∷ codes "1" ∷ [])
+    (written _ _ (plain_by (codes "image") refl, (plain_by (codes "1") refl, tt)) (omega arith))
+    (refl, refl) titled-ends
 can-end Titled h = titled-ends
 can-end (Body s last lapics) h = by (processors s) refl
   where

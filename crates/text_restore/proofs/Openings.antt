@@ -9,12 +9,14 @@ use Rattle.text_lines.specs.Reading.{Fields, parse_item, parse_opening, item_at}
 use Rattle.text_lines.proofs.ReadLemmas.{reading-means, says-opening}
 use Rattle.text_restore.specs.inside.Stages.{OpensNone}
 
-parsed : (word : List ℕ) (fields : Fields) (n : ℕ) (p : Option ℕ) (t : ℕ) → bytes_eq word (codes "board") ≡ true → parse_opening fields ≡ Some (n, p, t) →
+parsed : (word : List ℕ) (fields : Fields) (n : ℕ) (p : Option ℕ) (t : ℕ) → bytes_eq word (codes "board") ≡ true
+    → parse_opening fields ≡ Some (n, p, t) →
     parse_item (word ∷ fields) ≡ Some (Opening n p t)
 parsed word fields n p t is read = rw (is, read) refl
 
 -- the item of a board line
-pub item : (line word : List ℕ) (fields : Fields) (n : ℕ) (p : Option ℕ) (t : ℕ) → fields_of line ≡ word ∷ fields → bytes_eq word (codes "board") ≡ true → parse_opening fields ≡ Some (n, p, t) →
+pub item : (line word : List ℕ) (fields : Fields) (n : ℕ) (p : Option ℕ) (t : ℕ) → fields_of line ≡ word ∷ fields
+    → bytes_eq word (codes "board") ≡ true → parse_opening fields ≡ Some (n, p, t) →
     item_at line ≡ Some (Opening n p t)
 unfolding item_at
 item line word fields n p t cut is read = ap parse_item cut ∙ parsed word fields n p t is read
@@ -27,26 +29,33 @@ no-pages line n t is = λ new h.
 pub no-word : (line : List ℕ) → fields_of line ≡ [] → OpensNone line
 no-word line cut = λ new h.
     let d = (reading-means line (Opening h.count (Some h.pages) h.ticket)).0 h.item in
-    let e : [] ≡ codes "board" ∷ decimal h.count ∷ pages_field (Some h.pages) ∷ decimal h.ticket ∷ [] = sym cut ∙ d.fields in cc
+    let e : [] ≡ codes "board" ∷ decimal h.count ∷ pages_field (Some h.pages) ∷ decimal h.ticket ∷ [] =
+    sym cut ∙ d.fields in cc
 
-pub other-word : (line word : List ℕ) (fields : Fields) → fields_of line ≡ word ∷ fields → bytes_eq word (codes "board") ≡ false → OpensNone line
+pub other-word : (line word : List ℕ) (fields : Fields) → fields_of line ≡ word ∷ fields
+    → bytes_eq word (codes "board") ≡ false → OpensNone line
 other-word line word fields cut other = λ new h.
     let d = (reading-means line (Opening h.count (Some h.pages) h.ticket)).0 h.item in
-    let e : word ∷ fields ≡ codes "board" ∷ decimal h.count ∷ pages_field (Some h.pages) ∷ decimal h.ticket ∷ [] = sym cut ∙ d.fields in
+    let e : word ∷ fields ≡ codes "board" ∷ decimal h.count ∷ pages_field (Some h.pages) ∷ decimal h.ticket ∷ [] =
+    sym cut ∙ d.fields in
     let same : word ≡ codes "board" = cc in
     let off : true ≡ false = sym (ap (λ (w : List ℕ). bytes_eq w (codes "board")) same) ∙ other in cc
 
 apart : (sizes : ℕ × Option ℕ × ℕ) → None ≡ Some sizes → ⊥
 apart sizes e = cc
 
-pub no-sizes : (line word : List ℕ) (fields : Fields) → fields_of line ≡ word ∷ fields → parse_opening fields ≡ None → OpensNone line
+pub no-sizes : (line word : List ℕ) (fields : Fields) → fields_of line ≡ word ∷ fields → parse_opening fields ≡ None
+    → OpensNone line
 no-sizes line word fields cut none = λ new h.
     let d = (reading-means line (Opening h.count (Some h.pages) h.ticket)).0 h.item in
-    let e : word ∷ fields ≡ codes "board" ∷ decimal h.count ∷ pages_field (Some h.pages) ∷ decimal h.ticket ∷ [] = sym cut ∙ d.fields in
+    let e : word ∷ fields ≡ codes "board" ∷ decimal h.count ∷ pages_field (Some h.pages) ∷ decimal h.ticket ∷ [] =
+    sym cut ∙ d.fields in
     let rest : fields ≡ decimal h.count ∷ pages_field (Some h.pages) ∷ decimal h.ticket ∷ [] = cc in
-    apart (h.count, Some h.pages, h.ticket) (sym none ∙ ap parse_opening rest ∙ says-opening h.count (Some h.pages) h.ticket d.fits)
+    apart (h.count, Some h.pages, h.ticket)
+    (sym none ∙ ap parse_opening rest ∙ says-opening h.count (Some h.pages) h.ticket d.fits)
 
-pub bad-sizes : (line : List ℕ) (n p t : ℕ) → item_at line ≡ Some (Opening n (Some p) t) → (IsWithinLimits n p → ⊥) → OpensNone line
+pub bad-sizes : (line : List ℕ) (n p t : ℕ) → item_at line ≡ Some (Opening n (Some p) t) → (IsWithinLimits n p → ⊥)
+    → OpensNone line
 bad-sizes line n p t is off = λ new h.
     let both : Some (Opening h.count (Some h.pages) h.ticket) ≡ Some (Opening n (Some p) t) = sym h.item ∙ is in
     let count : h.count ≡ n = cc in

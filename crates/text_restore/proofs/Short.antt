@@ -45,7 +45,8 @@ source-plain i = append-plain (codes "sint") (decimal i) (plain_by (codes "sint"
 source-short : (i : ℕ) → length (source_name i) ≤ 68
 source-short i = omega (arith, length-append (codes "sint") (decimal i), digits-short 10 i)
 
-queued-written : (p i : ℕ) (m : Message) → IsPiece (pieces.Queued p i m) → IsWritten (piece_fields (pieces.Queued p i m))
+queued-written : (p i : ℕ) (m : Message) → IsPiece (pieces.Queued p i m)
+    → IsWritten (piece_fields (pieces.Queued p i m))
 queued-written p i (FromPort ticket port kind payload) h = written _ _ (
   plain_by (codes "message") refl,
   (
@@ -59,7 +60,16 @@ queued-written p i (FromPort ticket port kind payload) h = written _ _ (
     ),
   ),
 )
-    (omega (arith, byte-short p h.0, byte-short i h.1, byte-short port h.2.1, digits-short 10 ticket, digits-short 16 kind, bytes-short payload.items, h.2.4))
+    (omega (
+      arith,
+      byte-short p h.0,
+      byte-short i h.1,
+      byte-short port h.2.1,
+      digits-short 10 ticket,
+      digits-short 16 kind,
+      bytes-short payload.items,
+      h.2.4,
+    ))
 queued-written p i (FromTimer ticket timer expiration) h = written _ _ (
   plain_by (codes "message") refl,
   (
@@ -68,15 +78,27 @@ queued-written p i (FromTimer ticket timer expiration) h = written _ _ (
       digits-plain 10 i,
       (
         digits-plain 10 ticket,
-        (plain_by (codes "timer") refl, (digits-plain 10 timer.0, (digits-plain 10 timer.1, (digits-plain 10 expiration, tt)))),
+        (
+          plain_by (codes "timer") refl,
+          (digits-plain 10 timer.0, (digits-plain 10 timer.1, (digits-plain 10 expiration, tt))),
+        ),
       ),
     ),
   ),
 )
-    (omega (arith, byte-short p h.0, byte-short i h.1, digits-short 10 ticket, digits-short 10 timer.0, digits-short 10 timer.1, digits-short 10 expiration))
+    (omega (
+      arith,
+      byte-short p h.0,
+      byte-short i h.1,
+      digits-short 10 ticket,
+      digits-short 10 timer.0,
+      digits-short 10 timer.1,
+      digits-short 10 expiration,
+    ))
 
 pub piece-written : (x : Piece) → IsPiece x → IsWritten (piece_fields x)
-piece-written (pieces.Moment t) h = written _ _ (plain_by (codes "moment") refl, (digits-plain 10 t, tt)) (omega (arith, digits-short 10 t))
+piece-written (pieces.Moment t) h =
+    written _ _ (plain_by (codes "moment") refl, (digits-plain 10 t, tt)) (omega (arith, digits-short 10 t))
 piece-written (pieces.Lapic p a) h =
     let requested = word_of a.requested in
     let in_service = word_of a.in_service in
@@ -125,20 +147,48 @@ piece-written (pieces.Lapic p a) h =
       digits-short 16 a.task_priority,
       (status-word a.suspended).short,
     ))
-piece-written (pieces.Control p value) h = written _ _ (plain_by (codes "register") refl, (digits-plain 10 p, (plain_by (codes "scontrol") refl, (digits-plain 16 value, tt))))
+piece-written (pieces.Control p value) h =
+    written _ _ (
+      plain_by (codes "register") refl,
+      (digits-plain 10 p, (plain_by (codes "scontrol") refl, (digits-plain 16 value, tt))),
+    )
     (omega (arith, digits-short 10 p, digits-short 16 value))
-piece-written (pieces.Overlay p kind value) h = written _ _ (plain_by (codes "register") refl, (digits-plain 10 p, ((overlay-word kind).plain, (digits-plain 16 value, tt))))
+piece-written (pieces.Overlay p kind value) h =
+    written _ _ (
+      plain_by (codes "register") refl,
+      (digits-plain 10 p, ((overlay-word kind).plain, (digits-plain 16 value, tt))),
+    )
     (omega (arith, digits-short 10 p, (overlay-word kind).short, digits-short 16 value))
-piece-written (pieces.Source p i value) h = written _ _ (plain_by (codes "register") refl, (digits-plain 10 p, (source-plain i, (digits-plain 16 value, tt))))
+piece-written (pieces.Source p i value) h =
+    written _ _ (plain_by (codes "register") refl, (digits-plain 10 p, (source-plain i, (digits-plain 16 value, tt))))
     (omega (arith, digits-short 10 p, source-short i, digits-short 16 value))
-piece-written (pieces.Guest k at bytes) h = written _ _ (plain_by (codes "page") refl, (digits-plain 10 k, (digits-plain 16 at, (spelled-plain bytes.items, tt))))
+piece-written (pieces.Guest k at bytes) h =
+    written _ _ (
+      plain_by (codes "page") refl,
+      (digits-plain 10 k, (digits-plain 16 at, (spelled-plain bytes.items, tt))),
+    )
     (omega (arith, byte-short k h.0, digits-short 16 at, spelled-length bytes.items, h.1.2))
-piece-written (pieces.Own p kind at bytes) h = written _ _ (plain_by (codes "own") refl, (digits-plain 10 p, ((kind-named kind).plain, (digits-plain 16 at, (spelled-plain bytes.items, tt)))))
+piece-written (pieces.Own p kind at bytes) h =
+    written _ _ (
+      plain_by (codes "own") refl,
+      (digits-plain 10 p, ((kind-named kind).plain, (digits-plain 16 at, (spelled-plain bytes.items, tt)))),
+    )
     (omega (arith, byte-short p h.0, (kind-named kind).short, digits-short 16 at, spelled-length bytes.items, h.1.2))
-piece-written (pieces.Port k p i (Messages buffers)) h = let e = event-plain (OpenPort k p i (Messages buffers)) h in written _ _ e.plain (omega (arith, e.bound))
-piece-written (pieces.Port k p i (Flags base count)) h = let e = event-plain (OpenPort k p i (Flags base count)) h in written _ _ e.plain (omega (arith, e.bound))
+piece-written (pieces.Port k p i (Messages buffers)) h =
+    let e = event-plain (OpenPort k p i (Messages buffers)) h in written _ _ e.plain (omega (arith, e.bound))
+piece-written (pieces.Port k p i (Flags base count)) h =
+    let e = event-plain (OpenPort k p i (Flags base count)) h in written _ _ e.plain (omega (arith, e.bound))
 piece-written (pieces.Timer p i config count None) h =
-    written _ _ (plain_by (codes "timer") refl, (digits-plain 10 p, (digits-plain 10 i, (digits-plain 16 config, (digits-plain 16 count, (plain_by (codes "stopped") refl, tt))))))
+    written _ _ (
+      plain_by (codes "timer") refl,
+      (
+        digits-plain 10 p,
+        (
+          digits-plain 10 i,
+          (digits-plain 16 config, (digits-plain 16 count, (plain_by (codes "stopped") refl, tt))),
+        ),
+      ),
+    )
     (omega (arith, digits-short 10 p, digits-short 10 i, digits-short 16 config, digits-short 16 count))
 piece-written (pieces.Timer p i config count (Some due)) h =
     written _ _ (
@@ -157,8 +207,17 @@ piece-written (pieces.Timer p i config count (Some due)) h =
         ),
       ),
     )
-    (omega (arith, digits-short 10 p, digits-short 10 i, digits-short 16 config, digits-short 16 count, digits-short 16 (due / 2 ^ 64), digits-short 16 (due % 2 ^ 64)))
+    (omega (
+      arith,
+      digits-short 10 p,
+      digits-short 10 i,
+      digits-short 16 config,
+      digits-short 16 count,
+      digits-short 16 (due / 2 ^ 64),
+      digits-short 16 (due % 2 ^ 64),
+    ))
 piece-written (pieces.Queued p i m) h = queued-written p i m h
-piece-written (pieces.Slot p i ticket) h = written _ _ (plain_by (codes "slot") refl, (digits-plain 10 p, (digits-plain 10 i, (digits-plain 10 ticket, tt))))
+piece-written (pieces.Slot p i ticket) h =
+    written _ _ (plain_by (codes "slot") refl, (digits-plain 10 p, (digits-plain 10 i, (digits-plain 10 ticket, tt))))
     (omega (arith, digits-short 10 p, digits-short 10 i, digits-short 10 ticket))
 piece-written pieces.End h = written _ _ (plain_by (codes "end") refl, tt) (omega arith)

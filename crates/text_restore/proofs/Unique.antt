@@ -21,9 +21,11 @@ one-restored s (pieces.Queued p i m) a b h k = h.3 ∙ sym k.3
 one-restored s (pieces.Slot p i ticket) a b h k = h.3 ∙ sym k.3
 one-restored s pieces.End a b h k = h ∙ sym k
 
-one-continued : (s : State) (last lapics : ℕ) (x : Piece) (a b : Stage) → Continues s last lapics x a → Continues s last lapics x b → a ≡ b
+one-continued : (s : State) (last lapics : ℕ) (x : Piece) (a b : Stage) → Continues s last lapics x a
+    → Continues s last lapics x b → a ≡ b
 one-continued s last lapics x a b h k =
-    h.stage ∙ ap (λ (t : State). Body t (place_of x) (lapics_after lapics x)) (one-restored s x h.next k.next h.restores k.restores) ∙ sym k.stage
+    h.stage ∙ ap (λ (t : State). Body t (place_of x) (lapics_after lapics x))
+    (one-restored s x h.next k.next h.restores k.restores) ∙ sym k.stage
 
 one-opened : (line : List ℕ) (a b : Stage) → Opens line a → Opens line b → a ≡ b
 one-opened line a b h k =

@@ -66,17 +66,24 @@ IsBlock at bytes = (at < 4096) × (at % 256 ≡ 0) × (bytes_eq bytes (replicate
 abbrev pub Restores : State → Piece → State → Type 0
 Restores s (piece.Moment t) new = (t ≢ 0) × (s.moment ≤ t) × (new ≡ at_moment s t)
 Restores s (piece.Lapic p a) new = (p < processors s) × (new ≡ with_processor s p a)
-Restores s (piece.Control p value) new = (p < processors s) × (value ≢ 0) × (new ≡ with_regs s p (with_value (regs_of s p) register.Control value))
-Restores s (piece.Overlay p k value) new = (p < processors s) × (value ≢ 0) × (new ≡ with_regs s p (after_write (regs_of s p) (overlay_register k) value))
-Restores s (piece.Source p i value) new = (p < processors s) × (value ≢ masked) × ((new, Done, []) ≡ stored s p (register.Source i) value)
-Restores s (piece.Guest n at bytes) new = (n < length s.pages) × IsBlock at bytes.items × (new ≡ with_guest_bytes s n at bytes.items)
-Restores s (piece.Own p k at bytes) new = (p < processors s) × HasNoTickets s p × IsBlock at bytes.items × (new ≡ with_own_bytes s p k at bytes.items)
+Restores s (piece.Control p value) new =
+    (p < processors s) × (value ≢ 0) × (new ≡ with_regs s p (with_value (regs_of s p) register.Control value))
+Restores s (piece.Overlay p k value) new =
+    (p < processors s) × (value ≢ 0) × (new ≡ with_regs s p (after_write (regs_of s p) (overlay_register k) value))
+Restores s (piece.Source p i value) new =
+    (p < processors s) × (value ≢ masked) × ((new, Done, []) ≡ stored s p (register.Source i) value)
+Restores s (piece.Guest n at bytes) new =
+    (n < length s.pages) × IsBlock at bytes.items × (new ≡ with_guest_bytes s n at bytes.items)
+Restores s (piece.Own p k at bytes) new =
+    (p < processors s) × HasNoTickets s p × IsBlock at bytes.items × (new ≡ with_own_bytes s p k at bytes.items)
 Restores s (piece.Port n p i shape) new = (new, Done, []) ≡ opened_port s n p i shape
 Restores s (piece.Timer p i config count due) new =
     (p < processors s) × (i < 4) × ((config == 0) && ((count == 0) && is_none due) ≡ false)
-    × MayCount s (record { config = config; count = count; due = due }) × (new ≡ with_saved_timer s (p, i) (record { config = config; count = count; due = due }))
+    × MayCount s (record { config = config; count = count; due = due })
+    × (new ≡ with_saved_timer s (p, i) (record { config = config; count = count; due = due }))
 Restores s (piece.Queued p i m) new = (p < processors s) × (i < 16) × MayJoin s p i m × (new ≡ with_message s p i m)
-Restores s (piece.Slot p i ticket) new = (p < processors s) × (i < 16) × MayOccupy s p i ticket × (new ≡ with_slot_ticket s p i (Some ticket))
+Restores s (piece.Slot p i ticket) new =
+    (p < processors s) × (i < 16) × MayOccupy s p i ticket × (new ≡ with_slot_ticket s p i (Some ticket))
 Restores s piece.End new = new ≡ s
 
 -- What was read of an image.
@@ -85,7 +92,8 @@ pub data Stage : Type 0 where
   Untitled : Stage
   -- the title
   Titled : Stage
-  -- the board line and some pieces: the state to which they lead, the place of the last one, and how many local APICs they have
+  -- the board line and some pieces: the state to which they lead, the place of the last one, and how many local APICs
+  -- they have
   Body : State → ℕ → ℕ → Stage
 
 -- A piece may come next, and leads to a stage.

@@ -122,7 +122,8 @@ fn sizes_of(line: &[u8]) -> Option<(u8, u8, Ticket)>
 
 /// Takes a line after the board line.
 fn take_body(draft: &mut Draft, last: &mut u64, lapics: &mut u8, line: &[u8]) -> Taken<()>
-    ensures { Judges IsGood IsWrong result (Body draft.old last.old lapics.old) (Body draft.new last.new lapics.new) line.now [] }
+    ensures { Judges IsGood IsWrong result (Body draft.old last.old lapics.old)
+        (Body draft.new last.new lapics.new) line.now [] }
 {
     let Some(piece) = piece_of(line) else {
         return Taken::Wrong(());

@@ -17,15 +17,25 @@ use Rattle.text_trace.specs.Verdicts.{FirstIllegal}
 use Rattle.text_trace.proofs.StageLemmas.{Continues, Fits, back, one-follow, reached, Starts, starts}
 
 begins-front : (text more : List ℕ) → Begins (text ++ more) → Begins text
-begins-front text more b = record { rest = more ++ b.rest; entries = b.entries; whole = subst (λ (x : List ℕ). IsTrace x b.entries) (append_assoc text more b.rest) b.whole }
+begins-front text more b =
+    record {
+      rest = more ++ b.rest;
+      entries = b.entries;
+      whole = subst (λ (x : List ℕ). IsTrace x b.entries) (append_assoc text more b.rest) b.whole;
+    }
 
-begins-fewer : (lines : List (List ℕ)) (m n : ℕ) → m ≤ n → Begins (joined (take n lines)) → Begins (joined (take m lines))
+begins-fewer : (lines : List (List ℕ)) (m n : ℕ) → m ≤ n → Begins (joined (take n lines))
+    → Begins (joined (take m lines))
 begins-fewer lines m n le b =
-    let split : take n lines ≡ take m lines ++ drop m (take n lines) = sym (take-append-drop m (take n lines)) ∙ ap (λ (x : List (List ℕ)). x ++ drop m (take n lines)) (take-take m n lines le) in
-    begins-front (joined (take m lines)) (joined (drop m (take n lines))) (subst (λ (x : List ℕ). Begins x) (ap joined split ∙ joined-append (take m lines) (drop m (take n lines))) b)
+    let split : take n lines ≡ take m lines ++ drop m (take n lines) =
+    sym (take-append-drop m (take n lines))
+    ∙ ap (λ (x : List (List ℕ)). x ++ drop m (take n lines)) (take-take m n lines le) in
+    begins-front (joined (take m lines)) (joined (drop m (take n lines)))
+    (subst (λ (x : List ℕ). Begins x) (ap joined split ∙ joined-append (take m lines) (drop m (take n lines))) b)
 
 not-before : (text : List ℕ) (k l : ℕ) (a : FirstIllegal text k) (b : FirstIllegal text l) → a.before < b.before → ⊥
-not-before text k l a b less = a.wrong (omega (arith, b.there)) (begins-fewer (lines_of text) (a.before + 1) b.before (omega arith) b.good)
+not-before text k l a b less =
+    a.wrong (omega (arith, b.there)) (begins-fewer (lines_of text) (a.before + 1) b.before (omega arith) b.good)
 
 pub wrong-once : (text : List ℕ) (k l : ℕ) → FirstIllegal text k → FirstIllegal text l → k ≡ l
 wrong-once text k l a b = by (cases_order a.before b.before)
@@ -38,18 +48,29 @@ wrong-once text k l a b = by (cases_order a.before b.before)
 -- what begins a trace of any format begins one of format 5
 in-five : (f : Format) (beginning : List ℕ) (s : State) → IsBeginning f beginning s → IsBeginning Five beginning s
 in-five f beginning s (inl h) =
-    inl (record { processors = h.processors; pages = h.pages; ticket = h.ticket; form = refl; sizes = h.sizes; given = h.given; line = h.line; state = h.state })
+    inl (record {
+      processors = h.processors;
+      pages = h.pages;
+      ticket = h.ticket;
+      form = refl;
+      sizes = h.sizes;
+      given = h.given;
+      line = h.line;
+      state = h.state;
+    })
 in-five f beginning s (inr h) = inr (refl, h.1)
 
 -- so it begins one of the format in which a history is written
-pub begins-for : (f : Format) (history : List Entry) (beginning : List ℕ) (s : State) → IsBeginning f beginning s → IsBeginning (format_for f history) beginning s
+pub begins-for : (f : Format) (history : List Entry) (beginning : List ℕ) (s : State) → IsBeginning f beginning s
+    → IsBeginning (format_for f history) beginning s
 begins-for f history beginning s h = by (has_send history)
   where
     by : (t : Bool) → IsBeginning (if t then Five else f) beginning s
     by true = in-five f beginning s h
     by false = h
 
-pub trace-is : (f : Format) (beginning : List ℕ) (s : State) (history : List Entry) → IsBeginning f beginning s → All (IsEntry f) history → IsLegal s history →
+pub trace-is : (f : Format) (beginning : List ℕ) (s : State) (history : List Entry) → IsBeginning f beginning s
+    → All (IsEntry f) history → IsLegal s history →
     IsTrace (trace f beginning s history) (length history)
 trace-is f beginning s history begins fits legal = record {
   format = f;
@@ -64,17 +85,22 @@ trace-is f beginning s history begins fits legal = record {
 }
 
 abbrev SameCount : ℕ → Type 0
-SameCount fuel = (stage : Stage) (ys : List ℕ) (m n : ℕ) → Fits stage → length ys ≤ fuel → Continues stage ys m → Continues stage ys n → m ≡ n
+SameCount fuel =
+    (stage : Stage) (ys : List ℕ) (m n : ℕ) → Fits stage → length ys ≤ fuel → Continues stage ys m
+    → Continues stage ys n → m ≡ n
 
 over : (stage : Stage) (m n : ℕ) → stage ≡ Over m → stage ≡ Over n → m ≡ n
 over stage m n e f = let same : Over m ≡ Over n = sym e ∙ f in cc
 
-same-line : (fuel : ℕ) (stage : Stage) (ys : List ℕ) (m n : ℕ) → SameCount fuel → Fits stage → length ys ≤ suc fuel → Continues stage ys m → Continues stage ys n → Starts ys → m ≡ n
+same-line : (fuel : ℕ) (stage : Stage) (ys : List ℕ) (m n : ℕ) → SameCount fuel → Fits stage → length ys ≤ suc fuel
+    → Continues stage ys m → Continues stage ys n → Starts ys → m ≡ n
 same-line fuel stage ys m n rest fits small h k s =
     let f = back stage s.line s.rest m fits s.one (subst (λ (x : List ℕ). Continues stage x m) s.text h) in
     let g = back stage s.line s.rest n fits s.one (subst (λ (x : List ℕ). Continues stage x n) s.text k) in
-    let same : Continues f.next s.rest n = subst (λ (x : Stage). Continues x s.rest n) (one-follow stage s.line g.next f.next g.is f.is) g.on in
-    rest f.next s.rest m n ((reached stage f.next s.line f.is).fits fits) (omega (arith, ap length s.text, length-append s.line (10 ∷ s.rest))) f.on same
+    let same : Continues f.next s.rest n =
+    subst (λ (x : Stage). Continues x s.rest n) (one-follow stage s.line g.next f.next g.is f.is) g.on in
+    rest f.next s.rest m n ((reached stage f.next s.line f.is).fits fits)
+    (omega (arith, ap length s.text, length-append s.line (10 ∷ s.rest))) f.on same
 
 same-count : (fuel : ℕ) → SameCount fuel
 same-count zero stage ys m n fits small h k = by (starts stage ys m fits h) (starts stage ys n fits k)
@@ -83,9 +109,12 @@ same-count zero stage ys m n fits small h k = by (starts stage ys m fits h) (sta
     by (inl e) (inl f) = over stage m n e.0 f.0
     by (inl e) (inr s) = absurd (omega (arith, ap length s.text, length-append s.line (10 ∷ s.rest)))
     by (inr s) f = absurd (omega (arith, ap length s.text, length-append s.line (10 ∷ s.rest)))
-same-count (suc fuel) stage ys m n fits small h k = by (same-line fuel stage ys m n (same-count fuel) fits small h k) (starts stage ys m fits h) (starts stage ys n fits k)
+same-count (suc fuel) stage ys m n fits small h k =
+    by (same-line fuel stage ys m n (same-count fuel) fits small h k) (starts stage ys m fits h)
+    (starts stage ys n fits k)
   where
-    by : (Starts ys → m ≡ n) → ((stage ≡ Over m) × (ys ≡ [])) ⊎ Starts ys → ((stage ≡ Over n) × (ys ≡ [])) ⊎ Starts ys → m ≡ n
+    by : (Starts ys → m ≡ n) → ((stage ≡ Over m) × (ys ≡ [])) ⊎ Starts ys → ((stage ≡ Over n) × (ys ≡ [])) ⊎ Starts ys
+        → m ≡ n
     by line (inl e) (inl f) = over stage m n e.0 f.0
     by line (inl e) (inr s) = line s
     by line (inr s) f = line s

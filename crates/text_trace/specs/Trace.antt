@@ -75,7 +75,8 @@ trace f beginning s history = trace_text f beginning history (leads_to s history
 abbrev pub board_text : ℕ → Option ℕ → ℕ → List ℕ
 board_text processors pages ticket = line_of (item_fields (Opening processors pages ticket))
 
--- the board line of formats 1 and 2 opens a board that holds its guest pages, that of format 4 a sparse board, and that of format 5 either
+-- the board line of formats 1 and 2 opens a board that holds its guest pages, that of format 4 a sparse board, and
+-- that of format 5 either
 abbrev pub may_open : Format → Option ℕ → Bool
 may_open One pages = is_some pages
 may_open Two pages = is_some pages

@@ -14,7 +14,8 @@ use Rattle.text_trace.specs.declared.check.CheckEnd.TheVariants.{Legal, Refused,
 abbrev pub first_lines : ℕ → List ℕ → List ℕ
 first_lines n text = joined (take n (lines_of text))
 
--- Line k is the first wrong line of a text that is no trace: the lines before it begin a legal trace, and with it they begin none. If the text
+-- Line k is the first wrong line of a text that is no trace: the lines before it begin a legal trace, and with it
+-- they begin none. If the text
 -- has no whole line k, it ends too early, in the middle of line k or before it.
 pub record FirstIllegal (text : List ℕ) (k : ℕ) : Type 0 where
   pub before : ℕ
@@ -37,12 +38,14 @@ verdict_text (verdicts.Refused k) = line_of (codes "refused" ∷ decimal k ∷ [
 pub record BegunVerdict (r0 w0 w1 : Option (List ℕ)) : Type 0 where
   pub sent : List ℕ
   pub writes : Appends w0 w1 sent
-  pub begins : (sent ≡ []) ⊎ ((verdict : Verdict) × (rest : List ℕ) × IfSome r0 (IsVerdict verdict) × (verdict_text verdict ≡ sent ++ rest))
+  pub begins : (sent ≡ [])
+      ⊎ ((verdict : Verdict) × (rest : List ℕ) × IfSome r0 (IsVerdict verdict) × (verdict_text verdict ≡ sent ++ rest))
 
 -- the reader before, and the writer before and after
 abbrev pub Checks : CheckEnd → Option (List ℕ) → Option (List ℕ) → Option (List ℕ) → Type 0
 Checks (Legal n) r0 w0 w1 = IfSome r0 (IsVerdict (verdicts.Legal n)) × Appends w0 w1 (verdict_text (verdicts.Legal n))
-Checks (Refused k) r0 w0 w1 = IfSome r0 (IsVerdict (verdicts.Refused k)) × Appends w0 w1 (verdict_text (verdicts.Refused k))
+Checks (Refused k) r0 w0 w1 =
+    IfSome r0 (IsVerdict (verdicts.Refused k)) × Appends w0 w1 (verdict_text (verdicts.Refused k))
 Checks Memory r0 w0 w1 = Appends w0 w1 []
 Checks Reading r0 w0 w1 = Appends w0 w1 []
 Checks Writing r0 w0 w1 = BegunVerdict r0 w0 w1

@@ -27,6 +27,7 @@ pub fn one_history()
 
 /// The printed text of a legal history, in any format, is its trace.
 pub fn written_is_legal()
-    ensures { (f : Format) (beginning : List ℕ) (s : State) (history : List Entry) → IsBeginning f beginning s → All (IsEntry f) history → IsLegal s history
+    ensures { (f : Format) (beginning : List ℕ) (s : State) (history : List Entry) → IsBeginning f beginning s
+        → All (IsEntry f) history → IsLegal s history
         → IsTrace (trace f beginning s history) (length history) }
 {}

@@ -13,7 +13,8 @@ use synic_board::Entry;
 use text_base::put_decimal;
 use text_lines::{put_event, put_reply};
 
-/// Appends the trace of a history, in format 2, or in format 5 if it has a send, to `out`: for a board of that many processors and
+/// Appends the trace of a history, in format 2, or in format 5 if it has a send, to `out`: for a
+/// board of that many processors and
 /// pages, with its first ticket, and the next ticket after the history.
 pub fn put_trace(
     out: &mut Vec<u8>,
@@ -23,7 +24,10 @@ pub fn put_trace(
     history: &[Entry],
     next_ticket: Ticket,
 ) -> Result<(), AllocError>
-    ensures written { OnOk result (out.new.items ≡ out.old.items ++ trace_text (format_for Format.Two history.now) (board_text processors (Some pages) first_ticket) history.now next_ticket) }
+    ensures written { OnOk result
+        (out.new.items ≡ out.old.items
+        ++ trace_text (format_for Format.Two history.now)
+        (board_text processors (Some pages) first_ticket) history.now next_ticket) }
     ensures fits { OnOk result (All (IsEntry (format_for Format.Two history.now)) history.now) }
 {
     let format = Format::Two.for_history(history);
@@ -32,7 +36,8 @@ pub fn put_trace(
     put_rest(out, format, history, next_ticket)
 }
 
-/// Appends the trace of a history, in format 4, or in format 5 if it has a send, to `out`: for a sparse board of that many
+/// Appends the trace of a history, in format 4, or in format 5 if it has a send, to `out`: for a
+/// sparse board of that many
 /// processors, with its first ticket, and the next ticket after the history.
 pub fn put_sparse_trace(
     out: &mut Vec<u8>,
@@ -41,7 +46,10 @@ pub fn put_sparse_trace(
     history: &[Entry],
     next_ticket: Ticket,
 ) -> Result<(), AllocError>
-    ensures written { OnOk result (out.new.items ≡ out.old.items ++ trace_text (format_for Format.Four history.now) (board_text processors None first_ticket) history.now next_ticket) }
+    ensures written { OnOk result
+        (out.new.items ≡ out.old.items
+        ++ trace_text (format_for Format.Four history.now)
+        (board_text processors None first_ticket) history.now next_ticket) }
     ensures fits { OnOk result (All (IsEntry (format_for Format.Four history.now)) history.now) }
 {
     let format = Format::Four.for_history(history);
@@ -50,7 +58,8 @@ pub fn put_sparse_trace(
     put_rest(out, format, history, next_ticket)
 }
 
-/// Appends the trace of a history, in format 3, or in format 5 if it has a send, to `out`: for a board whose state before the history
+/// Appends the trace of a history, in format 3, or in format 5 if it has a send, to `out`: for a
+/// board whose state before the history
 /// has this image, with the next ticket after the history.
 pub fn put_trace_from_image(
     out: &mut Vec<u8>,
@@ -58,7 +67,9 @@ pub fn put_trace_from_image(
     history: &[Entry],
     next_ticket: Ticket,
 ) -> Result<(), AllocError>
-    ensures written { OnOk result (out.new.items ≡ out.old.items ++ trace_text (format_for Format.Three history.now) image.now history.now next_ticket) }
+    ensures written { OnOk result
+        (out.new.items ≡ out.old.items
+        ++ trace_text (format_for Format.Three history.now) image.now history.now next_ticket) }
     ensures fits { OnOk result (All (IsEntry (format_for Format.Three history.now)) history.now) }
 {
     let format = Format::Three.for_history(history);
@@ -115,7 +126,8 @@ fn put_rest(
     history: &[Entry],
     next_ticket: Ticket,
 ) -> Result<(), AllocError>
-    ensures written { OnOk result (out.new.items ≡ out.old.items ++ text_of (rest_lines format history.now next_ticket)) }
+    ensures written { OnOk result
+        (out.new.items ≡ out.old.items ++ text_of (rest_lines format history.now next_ticket)) }
     ensures fits { OnOk result (All (IsEntry Format.Five) history.now) }
 {
     put_history(out, history)?;

@@ -35,7 +35,8 @@ Finishes Reading fault w0 w1 = ⊥
 Finishes Writing fault w0 w1 = (sent rest : List ℕ) × Appends w0 w1 sent × (fault_text fault ≡ sent ++ rest)
 
 -- the fault was reported, or nothing more was written
-abbrev pub Concludes : Result (Option (ℕ × ScriptFault)) ReplayEnd → ReplayEnd → Option (List ℕ) → Option (List ℕ) → Type 0
+abbrev pub Concludes : Result (Option (ℕ × ScriptFault)) ReplayEnd → ReplayEnd → Option (List ℕ) → Option (List ℕ)
+    → Type 0
 Concludes (Ok fault) result w0 w1 = Finishes result fault w0 w1
 Concludes (Err end) result w0 w1 = (result ≡ end) × (w1 ≡ w0)
 

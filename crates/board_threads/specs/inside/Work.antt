@@ -59,13 +59,17 @@ pub record InPlace (setup ends : ℕ) (history : List Entry) : Type 0 where
   pub main_last : All (λ (e : Entry). e.actor ≡ 0) last
 
 -- the actors and the lines of a crew ran their scripts, and each actor has the number that it had
-pub record HaveRun (name : TableId) (acts : List (Vec Step Global)) (raises : List (Vec (ℕ × ℕ) Global)) (before after : List Acting) (ran : List (Token × Vec Raised Global)) : Type 0 where
+pub record HaveRun (name : TableId) (acts : List (Vec Step Global)) (raises : List (Vec (ℕ × ℕ) Global))
+    (before after : List Acting) (ran : List (Token × Vec Raised Global)) : Type 0 where
   pub numbers : map (λ (a : Acting). a.number) after ≡ map (λ (a : Acting). a.number) before
   pub acted : AllZip (λ (s : Vec Step Global) (a : Acting). HasActed name a.number s.items a) acts after
-  pub raised : AllZip (λ (s : Vec (ℕ × ℕ) Global) (x : Token × Vec Raised Global). HasRaised name s.items x.0 x.1.items) raises ran
+  pub raised : AllZip (λ (s : Vec (ℕ × ℕ) Global)
+      (x : Token × Vec Raised Global). HasRaised name s.items x.0 x.1.items) raises ran
 
--- the actors and lines of a crew when all threads have ended: actor 0, the others in the order of their scripts, and the lines, each with its results
-pub record HaveWorked (name : TableId) (setup : Setup) (scripts : Scripts) (actors : List Acting) (lines : List Token) (raised : List (Vec Raised Global)) : Type 0 where
+-- the actors and lines of a crew when all threads have ended: actor 0, the others in the order of their scripts, and
+-- the lines, each with its results
+pub record HaveWorked (name : TableId) (setup : Setup) (scripts : Scripts) (actors : List Acting) (lines : List Token)
+    (raised : List (Vec Raised Global)) : Type 0 where
   pub main : Acting
   pub others : List Acting
   pub ran : List (Token × Vec Raised Global)
@@ -74,5 +78,7 @@ pub record HaveWorked (name : TableId) (setup : Setup) (scripts : Scripts) (acto
   pub answers_are : raised ≡ map (λ (x : Token × Vec Raised Global). x.1) ran
   pub served : HasServed name setup.processors setup.events.items main
   pub numbers : map (λ (a : Acting). a.number) others ≡ range_with_len 1 (length scripts.actors.items)
-  pub acted : AllZip (λ (s : Vec Step Global) (a : Acting). HasActed name a.number s.items a) scripts.actors.items others
-  pub did_raise : AllZip (λ (s : Vec (ℕ × ℕ) Global) (x : Token × Vec Raised Global). HasRaised name s.items x.0 x.1.items) scripts.lines.items ran
+  pub acted : AllZip (λ (s : Vec Step Global) (a : Acting). HasActed name a.number s.items a) scripts.actors.items
+      others
+  pub did_raise : AllZip (λ (s : Vec (ℕ × ℕ) Global)
+      (x : Token × Vec Raised Global). HasRaised name s.items x.0 x.1.items) scripts.lines.items ran

@@ -63,10 +63,13 @@ Learnt κs a x ws = Fit dropped (stays board_kinds.ps) tt a ws × board_reads.Le
 abbrev Lives : (κs : Lfts 1) → Dens κs (glue_ps D D-laws) → Type 0
 Lives κs a = AllWithin 1 (κs.0, tt) (D.lives, tt) × Unit {0}
 
-pub board_glue : {M : Type 1} (𝓤 : Ura M) (𝓛 : Logic 𝓤) (𝓜 : Model 𝓤 𝓛.H) (𝓡 : Running 𝓤 𝓛.H 𝓜) → Wired 𝓡.env board_drop.code → Met 𝓛 𝓜 𝓡 𝓡.env D board_drops
+pub board_glue : {M : Type 1} (𝓤 : Ura M) (𝓛 : Logic 𝓤) (𝓜 : Model 𝓤 𝓛.H) (𝓡 : Running 𝓤 𝓛.H 𝓜)
+    → Wired 𝓡.env board_drop.code → Met 𝓛 𝓜 𝓡 𝓡.env D board_drops
 board_glue {M} 𝓤 𝓛 𝓜 𝓡 wired =
     let w : World = record { M = M; 𝓤 = 𝓤; 𝓛 = 𝓛; 𝓜 = 𝓜; 𝓡 = 𝓡 } in let key : Callee = method board_drops 0 no_args in
     glue_by D D-laws w board_drops 𝓡.env Left left Learnt Lives 0 tt (λ κs a h. ((h, tt), tt))
-    (via_longer 𝓛 (Over 𝓛 𝓜 𝓡 𝓡.env) 1 (glue_ps D D-laws) r_unit Left left Learnt Lives key 0 tt (λ κs. tt) (λ κs a. board_reads.Asked tt a) (λ κs a p. (tt, tt)) (λ κs bd inside a vss qs.
-    method_Known 0 board_kinds.ps board_kinds.r board_reads.requires board_reads.ensures board_reads.Asked board_reads.Learnt board_reads.known w board_drop.name key
+    (via_longer 𝓛 (Over 𝓛 𝓜 𝓡 𝓡.env) 1 (glue_ps D D-laws) r_unit Left left Learnt Lives key 0 tt (λ κs. tt)
+    (λ κs a. board_reads.Asked tt a) (λ κs a p. (tt, tt)) (λ κs bd inside a vss qs.
+    method_Known 0 board_kinds.ps board_kinds.r board_reads.requires board_reads.ensures board_reads.Asked
+    board_reads.Learnt board_reads.known w board_drop.name key
     (board_drop.as_method 𝓡.env wired key refl) (board_met.met 𝓤 𝓛 𝓜 𝓡 wired) ((tt, qs, tt, a, vss), tt)))

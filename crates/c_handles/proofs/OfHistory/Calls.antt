@@ -63,10 +63,13 @@ Learnt κs a x ws = Fit dropped (stays history_kinds.ps) tt a ws × history_read
 abbrev Lives : (κs : Lfts 1) → Dens κs (glue_ps D D-laws) → Type 0
 Lives κs a = AllWithin 1 (κs.0, tt) (D.lives, tt) × Unit {0}
 
-pub history_glue : {M : Type 1} (𝓤 : Ura M) (𝓛 : Logic 𝓤) (𝓜 : Model 𝓤 𝓛.H) (𝓡 : Running 𝓤 𝓛.H 𝓜) → Wired 𝓡.env history_drop.code → Met 𝓛 𝓜 𝓡 𝓡.env D history_drops
+pub history_glue : {M : Type 1} (𝓤 : Ura M) (𝓛 : Logic 𝓤) (𝓜 : Model 𝓤 𝓛.H) (𝓡 : Running 𝓤 𝓛.H 𝓜)
+    → Wired 𝓡.env history_drop.code → Met 𝓛 𝓜 𝓡 𝓡.env D history_drops
 history_glue {M} 𝓤 𝓛 𝓜 𝓡 wired =
     let w : World = record { M = M; 𝓤 = 𝓤; 𝓛 = 𝓛; 𝓜 = 𝓜; 𝓡 = 𝓡 } in let key : Callee = method history_drops 0 no_args in
     glue_by D D-laws w history_drops 𝓡.env Left left Learnt Lives 0 tt (λ κs a h. ((h, tt), tt))
-    (via_longer 𝓛 (Over 𝓛 𝓜 𝓡 𝓡.env) 1 (glue_ps D D-laws) r_unit Left left Learnt Lives key 0 tt (λ κs. tt) (λ κs a. history_reads.Asked tt a) (λ κs a p. (tt, tt)) (λ κs bd inside a vss qs.
-    method_Known 0 history_kinds.ps history_kinds.r history_reads.requires history_reads.ensures history_reads.Asked history_reads.Learnt history_reads.known w history_drop.name key
+    (via_longer 𝓛 (Over 𝓛 𝓜 𝓡 𝓡.env) 1 (glue_ps D D-laws) r_unit Left left Learnt Lives key 0 tt (λ κs. tt)
+    (λ κs a. history_reads.Asked tt a) (λ κs a p. (tt, tt)) (λ κs bd inside a vss qs.
+    method_Known 0 history_kinds.ps history_kinds.r history_reads.requires history_reads.ensures history_reads.Asked
+    history_reads.Learnt history_reads.known w history_drop.name key
     (history_drop.as_method 𝓡.env wired key refl) (history_met.met 𝓤 𝓛 𝓜 𝓡 wired) ((tt, qs, tt, a, vss), tt)))

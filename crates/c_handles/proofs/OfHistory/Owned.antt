@@ -12,11 +12,17 @@ pub handle_Tells : Tells handle.the_row (Is handle.the_row) (λ h. word h.at h.i
 handle_Tells h vs is = lowers.val_is h vs is
 
 module _ {M : Type 1} {𝓤 : Ura M} {𝓛 : Logic 𝓤} {K : Type 0} {Γ : List (Item 𝓤)} {G : Goal 𝓤 𝓛.H} where
-  pub handle_in : K → (h : HistoryHandle) → Step K 𝓛 (‵ (handle.the_row.own_val h (word h.at h.is_open ∷ [])) ∷ Γ) G (‵ (owned history.the_row h.is_open h.at h.history) ∷ Γ) G
+  pub handle_in : K → (h : HistoryHandle)
+      → Step K 𝓛 (‵ (handle.the_row.own_val h (word h.at h.is_open ∷ [])) ∷ Γ) G
+      (‵ (owned history.the_row h.is_open h.at h.history) ∷ Γ) G
   handle_in t h = step (λ s. let v : Val = word h.at h.is_open in
-      nothing t $ feq_i t (List Val) (vbool h.is_open ∷ []) (vbool h.is_open ∷ []) refl $ fjoin t $ feq_i t (List Val) (ptr_val h.at ∷ []) (ptr_val h.at ∷ []) refl $ fjoin t $
+      nothing t $ feq_i t (List Val) (vbool h.is_open ∷ []) (vbool h.is_open ∷ []) refl $ fjoin t $ feq_i t (List Val)
+      (ptr_val h.at ∷ []) (ptr_val h.at ∷ []) refl $ fjoin t $
       feq_i t (List Val) (v ∷ []) (v ∷ []) refl $ fjoin t $
-      fpack t (Valss (RawPtr ∷ bool ∷ [])) (within (shape handle.the_type) (h.at, (h.is_open, tt)) (v ∷ [])) (ptr_val h.at ∷ [], (vbool h.is_open ∷ [], tt)) $ fjoin t $ s)
+      fpack t (Valss (RawPtr ∷ bool ∷ [])) (within (shape handle.the_type) (h.at, (h.is_open, tt)) (v ∷ []))
+      (ptr_val h.at ∷ [], (vbool h.is_open ∷ [], tt)) $ fjoin t $ s)
 
-  pub handle_out : K → (h : HistoryHandle) → Step K 𝓛 (‵ (owned history.the_row h.is_open h.at h.history) ∷ Γ) G (‵ (handle.the_row.own_val h (word h.at h.is_open ∷ [])) ∷ Γ) G
+  pub handle_out : K → (h : HistoryHandle)
+      → Step K 𝓛 (‵ (owned history.the_row h.is_open h.at h.history) ∷ Γ) G
+      (‵ (handle.the_row.own_val h (word h.at h.is_open ∷ [])) ∷ Γ) G
   handle_out t h = step (λ s. fsplit t $ drop t $ s)

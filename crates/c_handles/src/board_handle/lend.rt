@@ -11,7 +11,9 @@ impl BoardHandle {
     /// A mutable reference to the board, if the handle is open. After the borrow the handle owns the
     /// board's final value.
     pub fn board_mut(&mut self) -> Option<&mut AnyBoard>
-        ensures* writes_back { sem 𝓛 (LendsSo handle_row board_row self.entry result (λ after board. after.board ≡ Some board) (λ after. after.board ≡ None)) }
+        ensures* writes_back { sem 𝓛
+            (LendsSo handle_row board_row self.entry result (λ after board. after.board ≡ Some board)
+            (λ after. after.board ≡ None)) }
         ensures found { MatchOption result (self.old.board ≡ None) (λ board. self.old.board ≡ Some board.now) }
     {
         if !self.is_open {

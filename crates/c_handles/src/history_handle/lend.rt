@@ -11,7 +11,9 @@ impl HistoryHandle {
     /// A mutable reference to the history, if the handle is open. After the borrow the handle owns the
     /// history's final value. The handle's own bytes are not written.
     pub fn history_mut(&mut self) -> Option<&mut History>
-        ensures* writes_back { sem 𝓛 (LendsSo handle_row history_row self.entry result (λ after history. after.history ≡ Some history) (λ after. after.history ≡ None)) }
+        ensures* writes_back { sem 𝓛
+            (LendsSo handle_row history_row self.entry result (λ after history. after.history ≡ Some history)
+            (λ after. after.history ≡ None)) }
         ensures found { MatchOption result (self.old.history ≡ None) (λ history. self.old.history ≡ Some history.now) }
     {
         if !self.is_open {

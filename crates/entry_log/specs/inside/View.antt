@@ -7,7 +7,8 @@ use Rattle.entry_log.specs.declared.log.EntryLog.TheInside.{Inside}
 
 -- capacity for the numbers of one more entry, for 240 bytes of its event and 8 of its reply
 abbrev pub has_room : Inside → Bool
-has_room a = nat_lt (vec_len a.compact) (vec_capacity a.compact) && nat_le (vec_len a.bytes + 248) (vec_capacity a.bytes)
+has_room a =
+    nat_lt (vec_len a.compact) (vec_capacity a.compact) && nat_le (vec_len a.bytes + 248) (vec_capacity a.bytes)
 
 abbrev pub log_of : Inside → Log
 log_of a = record { entries = entries_in a.bytes.items a.compact.items; has_room = has_room a }

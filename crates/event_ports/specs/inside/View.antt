@@ -8,7 +8,8 @@ use Rattle.event_ports.specs.Ports.{Ports, port_at, buffers_to}
 abbrev pub ports_of : Inside → Ports
 ports_of a = record { processors = length a.buffers.items; ports = a.ports.items }
 
--- an open port has a target on the board, and its shape is in range; the buffers of each processor's ports are counted, and at most 256
+-- an open port has a target on the board, and its shape is in range; the buffers of each processor's ports are
+-- counted, and at most 256
 pub record PortsInvariant (a : Inside) : Type 0 where
   pub processor_bound : length a.buffers.items ≤ 64
   pub on_the_board : (n : ℕ) (p : Port) → port_at (ports_of a) n ≡ Some p → p.vp < length a.buffers.items

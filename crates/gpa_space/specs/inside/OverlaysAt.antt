@@ -18,13 +18,16 @@ has_word word_of at register = is_enabled register && (word_of (page_of register
 
 -- bit i of a word is set iff overlay i is mapped at a page that has it
 abbrev pub AreOverlaysAt : (PageNumber → ℕ) → ℕ → List ℕ → List ℕ → Type 0
-AreOverlaysAt word_of bits registers words = (at i : ℕ) → at < length words → i < bits → (bit_at (slice_index_or words at 0) i == 1) ≡ has_word word_of at (slice_index_or registers i 0)
+AreOverlaysAt word_of bits registers words =
+    (at i : ℕ) → at < length words → i < bits
+    → (bit_at (slice_index_or words at 0) i == 1) ≡ has_word word_of at (slice_index_or registers i 0)
 
 -- one bit of one word was written, if there is that word, and nothing else
 pub record Marks (bits : ℕ) (old new : List ℕ) (at overlay : ℕ) (is_mapped : Bool) : Type 0 where
   pub many : length new ≡ length old
   pub here : at < length old → (bit_at (slice_index_or new at 0) overlay == 1) ≡ is_mapped
-  pub others : (p i : ℕ) → i < bits → (p ≢ at) ⊎ (i ≢ overlay) → bit_at (slice_index_or new p 0) i ≡ bit_at (slice_index_or old p 0) i
+  pub others : (p i : ℕ) → i < bits → (p ≢ at) ⊎ (i ≢ overlay)
+      → bit_at (slice_index_or new p 0) i ≡ bit_at (slice_index_or old p 0) i
 
 -- the lowest bit of a word that is set, if there is one
 abbrev pub IsLowest : ℕ → Option ℕ → Type 0
@@ -37,11 +40,16 @@ is_mapped_in from count word = is_enabled word && (nat_le from (page_of word) &&
 
 -- the lesser of a page and of that of one more overlay, if it is mapped there
 abbrev pub lesser_page : ℕ → ℕ → ℕ → Option ℕ → Option ℕ
-lesser_page from count word least = if is_mapped_in from count word && option_map_or (λ p. nat_lt (page_of word) p) least true then Some (page_of word) else least
+lesser_page from count word least =
+    if is_mapped_in from count word && option_map_or (λ p. nat_lt (page_of word) p) least true
+    then Some (page_of word) else least
 
 -- the least page at which one of the first n overlays is mapped, if any is
 abbrev pub IsLeastPage : List ℕ → ℕ → ℕ → ℕ → Option ℕ → Type 0
-IsLeastPage registers from count n None = (i : ℕ) → i < n → is_mapped_in from count (slice_index_or registers i 0) ≡ false
+IsLeastPage registers from count n None =
+    (i : ℕ) → i < n → is_mapped_in from count (slice_index_or registers i 0) ≡ false
 IsLeastPage registers from count n (Some p) =
-    ((k : ℕ) × (k < n) × (is_mapped_in from count (slice_index_or registers k 0) ≡ true) × (p ≡ page_of (slice_index_or registers k 0)))
-    × ((i : ℕ) → i < n → is_mapped_in from count (slice_index_or registers i 0) ≡ true → p ≤ page_of (slice_index_or registers i 0))
+    ((k : ℕ) × (k < n) × (is_mapped_in from count (slice_index_or registers k 0) ≡ true)
+    × (p ≡ page_of (slice_index_or registers k 0)))
+    × ((i : ℕ) → i < n → is_mapped_in from count (slice_index_or registers i 0) ≡ true
+    → p ≤ page_of (slice_index_or registers i 0))

@@ -27,4 +27,5 @@ floor suspended task_priority = if suspended then 255 else task_priority
 
 -- a processor with these vectors in service, this task priority, and these requests
 abbrev pub serving : Vectors → ℕ → Vectors → Apic
-serving in_service task_priority requested = record { requested = requested; in_service = in_service; task_priority = task_priority; suspended = false }
+serving in_service task_priority requested =
+    record { requested = requested; in_service = in_service; task_priority = task_priority; suspended = false }

@@ -6,7 +6,12 @@ use Rattle.lapic_core.specs.inside.Threshold.{threshold, floor, serving}
 use Rattle.lapic_core.specs.declared.lapic.Lapic.TheInside.{Inside}
 
 abbrev pub apic_of : Inside → Apic
-apic_of a = record { requested = a.requested; in_service = a.in_service; task_priority = a.task_priority; suspended = a.suspended }
+apic_of a = record {
+  requested = a.requested;
+  in_service = a.in_service;
+  task_priority = a.task_priority;
+  suspended = a.suspended;
+}
 
 -- the processor with its floor as task priority: 255 if it is suspended
 abbrev pub held_of : Inside → Apic

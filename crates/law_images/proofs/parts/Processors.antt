@@ -15,7 +15,8 @@ use Rattle.law_images.proofs.Spots.{Time, Lapics, IsSpot, AgreeElsewhere}
 use Rattle.law_images.proofs.Printed.{printed}
 use Rattle.law_images.proofs.Extending.{IsShaped, IsBlank, Extends, first-added}
 
-pub moment-extends : (n m ticket : ℕ) (s : State) (last lapics t : ℕ) → IsShaped n m ticket s → IsBlank n m s last lapics →
+pub moment-extends : (n m ticket : ℕ) (s : State) (last lapics t : ℕ) → IsShaped n m ticket s
+    → IsBlank n m s last lapics →
     last < place_of (pieces.Moment t) → t ≢ 0 → Extends n m ticket s lapics (pieces.Moment t) (at_moment s t) lapics
 moment-extends n m ticket s last lapics t h blank later ne = record {
   shaped = record {
@@ -39,7 +40,8 @@ moment-extends n m ticket s last lapics t h blank later ne = record {
   spot = spot;
   is = refl;
   frame = frame;
-  added = first-added (printed s lapics Time 0 0 0) (printed (at_moment s t) lapics Time 0 0 0) (moment_fields t) (blank Time 0 0 0 spot later)
+  added = first-added (printed s lapics Time 0 0 0) (printed (at_moment s t) lapics Time 0 0 0) (moment_fields t)
+      (blank Time 0 0 0 spot later)
       (ap (λ (y : Bool). cond y [] (moment_fields t ∷ [])) off);
 }
   where
@@ -54,8 +56,10 @@ moment-extends n m ticket s last lapics t h blank later ne = record {
     frame σ i j k h' other = refl
 
 -- processor p is the next one
-pub lapic-extends : (n m ticket : ℕ) (s : State) (last lapics p : ℕ) (a : Apic) → IsShaped n m ticket s → IsBlank n m s last lapics →
-    last < place_of (pieces.Lapic p a) → p < n → p ≡ lapics → Extends n m ticket s lapics (pieces.Lapic p a) (with_processor s p a) (lapics + 1)
+pub lapic-extends : (n m ticket : ℕ) (s : State) (last lapics p : ℕ) (a : Apic) → IsShaped n m ticket s
+    → IsBlank n m s last lapics →
+    last < place_of (pieces.Lapic p a) → p < n → p ≡ lapics
+    → Extends n m ticket s lapics (pieces.Lapic p a) (with_processor s p a) (lapics + 1)
 lapic-extends n m ticket s last lapics p a h blank later on turn = record {
   shaped = record {
     apics = length-set s.apics p a ∙ h.apics;
@@ -78,8 +82,10 @@ lapic-extends n m ticket s last lapics p a h blank later on turn = record {
   spot = spot;
   is = refl;
   frame = frame;
-  added = first-added (printed s lapics Lapics p 0 0) (printed (with_processor s p a) (lapics + 1) Lapics p 0 0) (lapic_line p a) (blank Lapics p 0 0 spot later)
-      (ap (λ (y : Bool). cond y (lapic_lines (with_processor s p a) p) []) yes ∙ ap (λ (y : Apic). lapic_line p y ∷ []) same);
+  added = first-added (printed s lapics Lapics p 0 0) (printed (with_processor s p a) (lapics + 1) Lapics p 0 0)
+      (lapic_line p a) (blank Lapics p 0 0 spot later)
+      (ap (λ (y : Bool). cond y (lapic_lines (with_processor s p a) p) []) yes
+      ∙ ap (λ (y : Apic). lapic_line p y ∷ []) same);
 }
   where
     spot : IsSpot n m Lapics p 0 0
@@ -95,12 +101,18 @@ lapic-extends n m ticket s last lapics p a h blank later on turn = record {
     still q ne = by (cases_lt q lapics)
       where
         by : (q < lapics) ⊎ (lapics ≤ q) → nat_lt q (lapics + 1) ≡ nat_lt q lapics
-        by (inl low) = let one : nat_lt q (lapics + 1) ≡ true = grind (arith, nat_tests) in let two : nat_lt q lapics ≡ true = grind (arith, nat_tests) in one ∙ sym two
-        by (inr high) = let one : nat_lt q (lapics + 1) ≡ false = grind (arith, nat_tests) in let two : nat_lt q lapics ≡ false = grind (arith, nat_tests) in one ∙ sym two
+        by (inl low) =
+            let one : nat_lt q (lapics + 1) ≡ true =
+            grind (arith, nat_tests) in let two : nat_lt q lapics ≡ true = grind (arith, nat_tests) in one ∙ sym two
+        by (inr high) =
+            let one : nat_lt q (lapics + 1) ≡ false =
+            grind (arith, nat_tests) in let two : nat_lt q lapics ≡ false = grind (arith, nat_tests) in one ∙ sym two
 
-    frame : AgreeElsewhere n m (place_of (pieces.Lapic p a)) (printed s lapics) (printed (with_processor s p a) (lapics + 1))
+    frame : AgreeElsewhere n m (place_of (pieces.Lapic p a)) (printed s lapics)
+        (printed (with_processor s p a) (lapics + 1))
     frame Lapics q j k h' other =
         let ne : q ≢ p = λ e. other (omega (arith, e, h'.1, h'.2)) in
         ap (λ (y : Bool). cond y (lapic_lines (with_processor s p a) q) []) (still q ne)
-        ∙ ap (λ (y : Apic). cond (nat_lt q lapics) (lapic_line q y ∷ []) []) (get_or-set_other s.apics p q a empty_apic ne)
+        ∙ ap (λ (y : Apic). cond (nat_lt q lapics) (lapic_line q y ∷ []) [])
+        (get_or-set_other s.apics p q a empty_apic ne)
     frame σ i j k h' other = refl

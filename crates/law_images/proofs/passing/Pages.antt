@@ -18,20 +18,26 @@ use Rattle.law_images.proofs.Walks.{Point, point, Passes, passes-append, passes-
 
 -- one more block of a page in a list of pages
 block-put : (pages : List (List ℕ)) (k c : ℕ) (page : List ℕ) → k < length pages → length page ≡ 4096 → c < 16 →
-    set pages k (blend page (suc c)) ≡ set (set pages k (blend page c)) k (overwritten (get_or (set pages k (blend page c)) k []) (256 * c) (block_of page c))
+    set pages k (blend page (suc c))
+    ≡ set (set pages k (blend page c)) k
+    (overwritten (get_or (set pages k (blend page c)) k []) (256 * c) (block_of page c))
 block-put pages k c page inside whole below =
     let same = get_or-set_same pages k (blend page c) [] inside in
     sym (set-set pages k (blend page c) (blend page (suc c)))
-    ∙ ap (set (set pages k (blend page c)) k) (blend-more page c whole below ∙ (λ i. overwritten (sym same i) (256 * c) (block_of page c)))
+    ∙ ap (set (set pages k (blend page c)) k)
+    (blend-more page c whole below ∙ (λ i. overwritten (sym same i) (256 * c) (block_of page c)))
 
 module _ (s : State) (h : IsBoardState s) (t : State) (full : processors t ≡ processors s) where
   abbrev with_pages : List (List ℕ) → State
   with_pages pages = record t { pages = pages }
 
   guest-passed : (k : ℕ) → k < length s.pages →
-      Passes (point (with_pages (set (front k s.pages zero_page) k zero_page)) (processors s) (place 4 k 0 0)) (guest_lines s k)
+      Passes (point (with_pages (set (front k s.pages zero_page) k zero_page)) (processors s) (place 4 k 0 0))
+      (guest_lines s k)
       (point (with_pages (set (front k s.pages zero_page) k (get_or s.pages k []))) (processors s) (place 4 k 0 4096))
-  guest-passed k below = page-passed page (λ (y : List ℕ). with_pages (set (front k s.pages zero_page) k y)) (processors s) (λ c. place 4 k 0 (256 * c))
+  guest-passed k below =
+      page-passed page (λ (y : List ℕ). with_pages (set (front k s.pages zero_page) k y)) (processors s)
+      (λ c. place 4 k 0 (256 * c))
       (λ c. pieces.Guest k (256 * c) (record { items = block_of page c })) (record {
         whole = whole;
         rising = λ c. omega arith;
@@ -39,7 +45,11 @@ module _ (s : State) (h : IsBoardState s) (t : State) (full : processors t ≡ p
           fits = (omega (arith, h.sizes.page_bound, below), block-fits page c whole (h.ranges.pages k [] below) low);
           later = λ last before. before;
           turn = sym full;
-          restores = (inside c, block-comes c (block_of page c) low off, ap with_pages (block-put (front k s.pages zero_page) k c page (omega (arith, long, below)) whole low));
+          restores = (
+            inside c,
+            block-comes c (block_of page c) low off,
+            ap with_pages (block-put (front k s.pages zero_page) k c page (omega (arith, long, below)) whole low),
+          );
           count = refl;
           before = omega arith;
         };
@@ -60,21 +70,30 @@ module _ (s : State) (h : IsBoardState s) (t : State) (full : processors t ≡ p
   abbrev guests-at : ℕ → Point
   guests-at k = point (with_pages (front k s.pages zero_page)) (processors s) (place 4 k 0 0)
 
-  pub guests-passed : Passes (point (with_pages (replicate (length s.pages) zero_page)) (processors s) (place 4 0 0 0)) (each_below (length s.pages) (guest_lines s))
+  pub guests-passed : Passes
+      (point (with_pages (replicate (length s.pages) zero_page)) (processors s) (place 4 0 0 0))
+      (each_below (length s.pages) (guest_lines s))
       (point (with_pages s.pages) (processors s) (place 5 0 0 0))
   guests-passed =
-      passes-from (point (with_pages (replicate (length s.pages) zero_page)) (processors s) (place 4 0 0 0)) (guests-at 0) (point (with_pages s.pages) (processors s) (place 5 0 0 0))
-      (each_below (length s.pages) (guest_lines s)) (ap with_pages (sym (front-none s.pages zero_page))) refl (omega arith)
-      (passes-to (guests-at 0) (guests-at (length s.pages)) (point (with_pages s.pages) (processors s) (place 5 0 0 0)) (each_below (length s.pages) (guest_lines s))
-      (ap with_pages (sym (front-whole s.pages zero_page (length s.pages) (omega arith)))) refl (omega (arith, h.sizes.page_bound))
+      passes-from (point (with_pages (replicate (length s.pages) zero_page)) (processors s) (place 4 0 0 0))
+      (guests-at 0) (point (with_pages s.pages) (processors s) (place 5 0 0 0))
+      (each_below (length s.pages) (guest_lines s)) (ap with_pages (sym (front-none s.pages zero_page))) refl
+      (omega arith)
+      (passes-to (guests-at 0) (guests-at (length s.pages))
+      (point (with_pages s.pages) (processors s) (place 5 0 0 0)) (each_below (length s.pages) (guest_lines s))
+      (ap with_pages (sym (front-whole s.pages zero_page (length s.pages) (omega arith)))) refl
+      (omega (arith, h.sizes.page_bound))
       (passes-each (length s.pages) (guest_lines s) guests-at step))
     where
       step : (k : ℕ) → k < length s.pages → Passes (guests-at k) (guest_lines s k) (guests-at (suc k))
       step k below =
-          passes-from (guests-at k) (point (with_pages (set (front k s.pages zero_page) k zero_page)) (processors s) (place 4 k 0 0)) (guests-at (suc k)) (guest_lines s k)
+          passes-from (guests-at k)
+          (point (with_pages (set (front k s.pages zero_page) k zero_page)) (processors s) (place 4 k 0 0))
+          (guests-at (suc k)) (guest_lines s k)
           (ap with_pages (front-start k s.pages zero_page below)) refl (omega arith)
           (passes-to (point (with_pages (set (front k s.pages zero_page) k zero_page)) (processors s) (place 4 k 0 0))
-          (point (with_pages (set (front k s.pages zero_page) k (get_or s.pages k []))) (processors s) (place 4 k 0 4096)) (guests-at (suc k)) (guest_lines s k)
+          (point (with_pages (set (front k s.pages zero_page) k (get_or s.pages k []))) (processors s)
+          (place 4 k 0 4096)) (guests-at (suc k)) (guest_lines s k)
           (ap with_pages (front-more k s.pages zero_page [] below)) refl (omega arith)
           (guest-passed k below))
 
@@ -88,15 +107,19 @@ module _ (s : State) (h : IsBoardState s) (t : State) (full : processors t ≡ p
     owns-at j at = point (with_owns (front j s.own zero_page)) (processors s) at
 
     own-passed : (p : ℕ) (kind : Kind) → p < processors s → overlay_of p kind < length s.own →
-        Passes (owns-at (overlay_of p kind) (place 5 p (page_place kind) 0)) (own_page_lines s p kind) (owns-at (suc (overlay_of p kind)) (place 5 p (page_place kind) 4096))
+        Passes (owns-at (overlay_of p kind) (place 5 p (page_place kind) 0)) (own_page_lines s p kind)
+        (owns-at (suc (overlay_of p kind)) (place 5 p (page_place kind) 4096))
     own-passed p kind below on =
-        passes-from (owns-at j (place 5 p (page_place kind) 0)) (point (with_owns (set pages j zero_page)) (processors s) (place 5 p (page_place kind) 0))
+        passes-from (owns-at j (place 5 p (page_place kind) 0))
+        (point (with_owns (set pages j zero_page)) (processors s) (place 5 p (page_place kind) 0))
         (owns-at (suc j) (place 5 p (page_place kind) 4096)) (own_page_lines s p kind)
         (ap with_owns (front-start j s.own zero_page on)) refl (omega arith)
         (passes-to (point (with_owns (set pages j zero_page)) (processors s) (place 5 p (page_place kind) 0))
-        (point (with_owns (set pages j page)) (processors s) (place 5 p (page_place kind) 4096)) (owns-at (suc j) (place 5 p (page_place kind) 4096)) (own_page_lines s p kind)
+        (point (with_owns (set pages j page)) (processors s) (place 5 p (page_place kind) 4096))
+        (owns-at (suc j) (place 5 p (page_place kind) 4096)) (own_page_lines s p kind)
         (ap with_owns (front-more j s.own zero_page [] on)) refl (omega arith)
-        (page-passed page (λ (y : List ℕ). with_owns (set pages j y)) (processors s) (λ c. place 5 p (page_place kind) (256 * c))
+        (page-passed page (λ (y : List ℕ). with_owns (set pages j y)) (processors s)
+        (λ c. place 5 p (page_place kind) (256 * c))
         (λ c. pieces.Own p kind (256 * c) (record { items = block_of page c })) (record {
           whole = whole;
           rising = λ c. omega arith;
@@ -104,7 +127,12 @@ module _ (s : State) (h : IsBoardState s) (t : State) (full : processors t ≡ p
             fits = (omega (arith, h.settled.bound, below), block-fits page c whole (h.ranges.own j [] on) low);
             later = λ last before. before;
             turn = sym full;
-            restores = (omega (arith, full, below), no_tickets p, block-comes c (block_of page c) low off, ap with_owns (block-put pages j c page (omega (arith, long, on)) whole low));
+            restores = (
+              omega (arith, full, below),
+              no_tickets p,
+              block-comes c (block_of page c) low off,
+              ap with_owns (block-put pages j c page (omega (arith, long, on)) whole low),
+            );
             count = refl;
             before = omega arith;
           };
@@ -125,13 +153,18 @@ module _ (s : State) (h : IsBoardState s) (t : State) (full : processors t ≡ p
         long : length pages ≡ length s.own
         long = length-front j s.own zero_page
 
-    pub owns-passed : Passes (point (with_owns (replicate (2 * processors s) zero_page)) (processors s) (place 5 0 0 0)) (each_below (processors s) (own_lines s))
+    pub owns-passed : Passes
+        (point (with_owns (replicate (2 * processors s) zero_page)) (processors s) (place 5 0 0 0))
+        (each_below (processors s) (own_lines s))
         (point (with_owns s.own) (processors s) (place 6 0 0 0))
     owns-passed =
-        passes-from (point (with_owns (replicate (2 * processors s) zero_page)) (processors s) (place 5 0 0 0)) (at 0) (point (with_owns s.own) (processors s) (place 6 0 0 0))
+        passes-from (point (with_owns (replicate (2 * processors s) zero_page)) (processors s) (place 5 0 0 0)) (at 0)
+        (point (with_owns s.own) (processors s) (place 6 0 0 0))
         (each_below (processors s) (own_lines s)) (ap with_owns (sym none)) refl (omega arith)
-        (passes-to (at 0) (at (processors s)) (point (with_owns s.own) (processors s) (place 6 0 0 0)) (each_below (processors s) (own_lines s))
-        (ap with_owns (sym (front-whole s.own zero_page (2 * processors s) (omega (arith, h.shape.overlays))))) refl (omega (arith, h.settled.bound))
+        (passes-to (at 0) (at (processors s)) (point (with_owns s.own) (processors s) (place 6 0 0 0))
+        (each_below (processors s) (own_lines s))
+        (ap with_owns (sym (front-whole s.own zero_page (2 * processors s) (omega (arith, h.shape.overlays))))) refl
+        (omega (arith, h.settled.bound))
         (passes-each (processors s) (own_lines s) at step))
       where
         at : ℕ → Point
@@ -144,10 +177,13 @@ module _ (s : State) (h : IsBoardState s) (t : State) (full : processors t ≡ p
         step p below =
             let first : suc (2 * p) ≡ 2 * p + 1 = omega arith in
             let second : 2 * suc p ≡ suc (2 * p + 1) = omega arith in
-            passes-append (at p) (owns-at (2 * p + 1) (place 5 p 1 0)) (at (suc p)) (own_page_lines s p kinds.Sim) (own_page_lines s p kinds.Sief)
-            (passes-to (at p) (owns-at (suc (2 * p)) (place 5 p 0 4096)) (owns-at (2 * p + 1) (place 5 p 1 0)) (own_page_lines s p kinds.Sim)
+            passes-append (at p) (owns-at (2 * p + 1) (place 5 p 1 0)) (at (suc p)) (own_page_lines s p kinds.Sim)
+            (own_page_lines s p kinds.Sief)
+            (passes-to (at p) (owns-at (suc (2 * p)) (place 5 p 0 4096)) (owns-at (2 * p + 1) (place 5 p 1 0))
+            (own_page_lines s p kinds.Sim)
             (ap (λ (k : ℕ). with_owns (front k s.own zero_page)) (sym first)) refl (omega arith)
             (own-passed p kinds.Sim below (omega (arith, h.shape.overlays, below))))
-            (passes-to (owns-at (2 * p + 1) (place 5 p 1 0)) (owns-at (suc (2 * p + 1)) (place 5 p 1 4096)) (at (suc p)) (own_page_lines s p kinds.Sief)
+            (passes-to (owns-at (2 * p + 1) (place 5 p 1 0)) (owns-at (suc (2 * p + 1)) (place 5 p 1 4096))
+            (at (suc p)) (own_page_lines s p kinds.Sief)
             (ap (λ (k : ℕ). with_owns (front k s.own zero_page)) second) refl (omega arith)
             (own-passed p kinds.Sief below (omega (arith, h.shape.overlays, below))))

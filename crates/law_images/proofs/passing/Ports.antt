@@ -39,8 +39,11 @@ shape-fits (Flags base count) e = by (nat_le 1 count) (nat_le (base + count) 204
     by false false is e = absurd (cc)
 
 -- a port that is closed and of the board's, has a target and is in range is not refused, if there is room
-not-refused : (k p i n count : ℕ) (shape : PortShape) (room : Bool) (old : Option Port) → k < count → p < n → i < 16 → fits shape ≡ true → room ≡ true → old ≡ None →
-    cond (nat_le count k) (Some UnknownPort) (cond (is_some old) (Some PortOpen) (cond (not (((nat_lt p n && nat_lt i 16) && fits shape) && room)) (Some BadTarget) None)) ≡ None
+not-refused : (k p i n count : ℕ) (shape : PortShape) (room : Bool) (old : Option Port) → k < count → p < n → i < 16
+    → fits shape ≡ true → room ≡ true → old ≡ None →
+    cond (nat_le count k) (Some UnknownPort)
+    (cond (is_some old) (Some PortOpen)
+    (cond (not (((nat_lt p n && nat_lt i 16) && fits shape) && room)) (Some BadTarget) None)) ≡ None
 not-refused k p i n count shape room old low on source fit left closed =
     let a : nat_le count k ≡ false = grind (arith, nat_tests) in
     let b : nat_lt p n ≡ true = grind (arith, nat_tests) in
@@ -61,41 +64,61 @@ module _ (s : State) (h : IsBoardState s) (t : State) (full : processors t ≡ p
       board = with_ports (front k s.ports None)
 
       low : k < 256
-      low = omega (arith, inside, h.shape.ports, ports-few (processors s) (is_sparse (space_of s)) h.sizes.processor_bound)
+      low = omega (
+        arith,
+        inside,
+        h.shape.ports,
+        ports-few (processors s) (is_sparse (space_of s)) h.sizes.processor_bound,
+      )
 
       room : (port : Port) → port_at (ports_of s) k ≡ Some port → has_room (ports_of board) port.vp port.shape ≡ true
       room port e =
           let next = front-sum-next (buffers_at port.vp) k s.ports None refl inside in
           let here = ap (buffers_at port.vp) e in
-          let mine : cond (nat_eq port.vp port.vp) (buffers_of port.shape) 0 ≡ buffers_of port.shape = rw (eq-eqb port.vp port.vp refl) refl in
-          let left : buffers_to (ports_of board) port.vp + buffers_of port.shape ≤ 256 = omega (arith, next, here, mine, h.buffers.few port.vp) in
+          let mine : cond (nat_eq port.vp port.vp) (buffers_of port.shape) 0 ≡ buffers_of port.shape =
+          rw (eq-eqb port.vp port.vp refl) refl in
+          let left : buffers_to (ports_of board) port.vp + buffers_of port.shape ≤ 256 =
+          omega (arith, next, here, mine, h.buffers.few port.vp) in
           grind (arith, nat_tests)
 
-      by : (o : Option Port) → port_at (ports_of s) k ≡ o → Passes (ports-at k) (option_map_or (λ (port : Port). port_line k port ∷ []) o []) (ports-at (suc k))
-      by None e = passes-none (ports-at k) (ports-at (suc k)) (ap with_ports (front-still k s.ports None e)) refl (omega arith)
+      by : (o : Option Port) → port_at (ports_of s) k ≡ o
+          → Passes (ports-at k) (option_map_or (λ (port : Port). port_line k port ∷ []) o []) (ports-at (suc k))
+      by None e = passes-none (ports-at k) (ports-at (suc k)) (ap with_ports (front-still k s.ports None e)) refl
+          (omega arith)
       by (Some port) e =
           let target = h.sound.whole.ports k port e in
           let none : open_refusal (ports_of board) k port.vp port.sint port.shape ≡ None =
-          not-refused k port.vp port.sint (processors t) (length (front k s.ports None)) port.shape (has_room (ports_of board) port.vp port.shape) (get_or (front k s.ports None) k None)
+          not-refused k port.vp port.sint (processors t) (length (front k s.ports None)) port.shape
+          (has_room (ports_of board) port.vp port.shape) (get_or (front k s.ports None) k None)
           (omega (arith, inside, length-front k s.ports None)) (omega (arith, full, target.0)) target.1
           (h.buffers.shapes k port e) (room port e) (front-new k k s.ports None None (omega arith) inside) in
           let new : with_ports (front (suc k) s.ports None) ≡ with_port board k port =
           ap with_ports (front-more k s.ports None None inside ∙ ap (set (front k s.ports None) k) e) in
           passes-one (ports-at k) (pieces.Port k port.vp port.sint port.shape) (ports-at (suc k)) (record {
-            fits = (low, omega (arith, target.0, h.settled.bound), omega (arith, target.1), shape-fits port.shape (h.buffers.shapes k port e));
+            fits = (
+              low,
+              omega (arith, target.0, h.settled.bound),
+              omega (arith, target.1),
+              shape-fits port.shape (h.buffers.shapes k port e),
+            );
             later = λ last before. before;
             turn = sym full;
-            restores = ap (λ (x : State). unchanged x Done) new ∙ sym (ap (λ (o : Option Refusal). option_map_or (refused board) o (unchanged (with_port board k port) Done)) none);
+            restores = ap (λ (x : State). unchanged x Done) new
+                ∙ sym (ap (λ (o : Option Refusal). option_map_or (refused board) o
+                (unchanged (with_port board k port) Done)) none);
             count = refl;
             before = omega arith;
           })
 
   pub ports-passed : (count : ℕ) → count ≡ length s.ports →
-      Passes (point (with_ports (replicate count None)) (processors s) (place 6 0 0 0)) (each_below (length s.ports) (port_lines s)) (point (with_ports s.ports) (processors s) (place 7 0 0 0))
+      Passes (point (with_ports (replicate count None)) (processors s) (place 6 0 0 0))
+      (each_below (length s.ports) (port_lines s)) (point (with_ports s.ports) (processors s) (place 7 0 0 0))
   ports-passed count is =
-      passes-from (point (with_ports (replicate count None)) (processors s) (place 6 0 0 0)) (ports-at 0) (point (with_ports s.ports) (processors s) (place 7 0 0 0)) (each_below (length s.ports) (port_lines s))
+      passes-from (point (with_ports (replicate count None)) (processors s) (place 6 0 0 0)) (ports-at 0)
+      (point (with_ports s.ports) (processors s) (place 7 0 0 0)) (each_below (length s.ports) (port_lines s))
       (ap with_ports (sym none)) refl (omega arith)
-      (passes-to (ports-at 0) (ports-at (length s.ports)) (point (with_ports s.ports) (processors s) (place 7 0 0 0)) (each_below (length s.ports) (port_lines s))
+      (passes-to (ports-at 0) (ports-at (length s.ports)) (point (with_ports s.ports) (processors s) (place 7 0 0 0))
+      (each_below (length s.ports) (port_lines s))
       (ap with_ports (sym (front-whole s.ports None (length s.ports) (omega arith)))) refl
       (omega (arith, h.shape.ports, ports-few (processors s) (is_sparse (space_of s)) h.sizes.processor_bound))
       (passes-each (length s.ports) (port_lines s) ports-at port-passed))

@@ -13,15 +13,19 @@ use Rattle.law_images.proofs.Fronts.{front, length-front, front-none, front-more
 use Rattle.law_images.proofs.Tests.{same, other}
 use Rattle.law_images.proofs.Walks.{Point, point, Passes, passes-unless, passes-one, passes-none, passes-each, passes-from, passes-to}
 
-pub moment-passed : (s : State) → IsBoardState s → (t : State) → Passes (point (at_moment t 0) 0 (place 1 0 0 0)) (moment_lines s.moment) (point (at_moment t s.moment) 0 (place 2 0 0 0))
-moment-passed s h t = passes-unless (s.moment == 0) old (pieces.Moment s.moment) new (λ e. passes-none old new (ap (at_moment t) (same s.moment 0 e)) refl (omega arith)) (λ e. record {
-  fits = h.ranges.moment;
-  later = λ last below. below;
-  turn = refl;
-  restores = (other s.moment 0 e, omega arith, refl);
-  count = refl;
-  before = omega arith;
-})
+pub moment-passed : (s : State) → IsBoardState s → (t : State)
+    → Passes (point (at_moment t 0) 0 (place 1 0 0 0)) (moment_lines s.moment)
+    (point (at_moment t s.moment) 0 (place 2 0 0 0))
+moment-passed s h t =
+    passes-unless (s.moment == 0) old (pieces.Moment s.moment) new
+    (λ e. passes-none old new (ap (at_moment t) (same s.moment 0 e)) refl (omega arith)) (λ e. record {
+      fits = h.ranges.moment;
+      later = λ last below. below;
+      turn = refl;
+      restores = (other s.moment 0 e, omega arith, refl);
+      count = refl;
+      before = omega arith;
+    })
   where
     old : Point
     old = point (at_moment t 0) 0 (place 1 0 0 0)
@@ -41,21 +45,31 @@ module _ (s : State) (h : IsBoardState s) (t : State) where
     fits = (omega (arith, h.settled.bound, below), h.ranges.apics k empty_apic below);
     later = λ last before. before;
     turn = refl;
-    restores = (omega (arith, length-front k s.apics empty_apic, below), (λ i. with_lapics (front-more k s.apics empty_apic empty_apic below i) (marks i)));
+    restores = (
+      omega (arith, length-front k s.apics empty_apic, below),
+      (λ i. with_lapics (front-more k s.apics empty_apic empty_apic below i) (marks i)),
+    );
     count = omega arith;
     before = omega arith;
   })
     where
       marks : front (suc k) s.suspended false ≡ set (front k s.suspended false) k (apic_of s k).suspended
-      marks = front-more k s.suspended false false (omega (arith, h.settled.marks, below)) ∙ ap (set (front k s.suspended false) k) (h.settled.suspended k)
+      marks = front-more k s.suspended false false (omega (arith, h.settled.marks, below))
+          ∙ ap (set (front k s.suspended false) k) (h.settled.suspended k)
 
-  pub lapics-passed : Passes (point (with_lapics (replicate (processors s) empty_apic) (replicate (processors s) false)) 0 (place 2 0 0 0)) (each_below (processors s) (lapic_lines s))
+  pub lapics-passed : Passes
+      (point (with_lapics (replicate (processors s) empty_apic) (replicate (processors s) false)) 0 (place 2 0 0 0))
+      (each_below (processors s) (lapic_lines s))
       (point (with_lapics s.apics s.suspended) (processors s) (place 3 0 0 0))
   lapics-passed =
-      passes-from (point (with_lapics (replicate (processors s) empty_apic) (replicate (processors s) false)) 0 (place 2 0 0 0)) (lapics-at 0)
-      (point (with_lapics s.apics s.suspended) (processors s) (place 3 0 0 0)) (each_below (processors s) (lapic_lines s))
+      passes-from (point (with_lapics (replicate (processors s) empty_apic) (replicate (processors s) false)) 0
+      (place 2 0 0 0)) (lapics-at 0)
+      (point (with_lapics s.apics s.suspended) (processors s) (place 3 0 0 0))
+      (each_below (processors s) (lapic_lines s))
       (λ i. with_lapics (sym (front-none s.apics empty_apic) i) (sym none i)) refl (omega arith)
-      (passes-to (lapics-at 0) (lapics-at (processors s)) (point (with_lapics s.apics s.suspended) (processors s) (place 3 0 0 0)) (each_below (processors s) (lapic_lines s))
+      (passes-to (lapics-at 0) (lapics-at (processors s))
+      (point (with_lapics s.apics s.suspended) (processors s) (place 3 0 0 0))
+      (each_below (processors s) (lapic_lines s))
       (λ i. with_lapics (sym whole i) (sym all i)) refl (omega (arith, h.settled.bound))
       (passes-each (processors s) (lapic_lines s) lapics-at lapic-passed))
     where
@@ -66,4 +80,5 @@ module _ (s : State) (h : IsBoardState s) (t : State) where
       whole = front-whole s.apics empty_apic (processors s) (omega arith)
 
       all : front (processors s) s.suspended false ≡ s.suspended
-      all = front-all (processors s) s.suspended false (λ j up below. h.settled.suspended j ∙ ap (λ (a : Apic). a.suspended) (get_or_past s.apics j empty_apic up))
+      all = front-all (processors s) s.suspended false
+          (λ j up below. h.settled.suspended j ∙ ap (λ (a : Apic). a.suspended) (get_or_past s.apics j empty_apic up))

@@ -38,7 +38,8 @@ record Got (q : List Message) (k : ℕ) (m : Message) : Type 0 where
 
 got : (q : List Message) (k : ℕ) (m : Message) → slice_get q k ≡ Some m → Got q k m
 got [] k m e = absurd (cc)
-got (x ∷ q) zero m e = let same : x ≡ m = cc in record { within = omega arith; is = λ d. same; more = ap (λ (y : Message). y ∷ []) same }
+got (x ∷ q) zero m e =
+    let same : x ≡ m = cc in record { within = omega arith; is = λ d. same; more = ap (λ (y : Message). y ∷ []) same }
 got (x ∷ q) (suc k) m e =
     let g = got q k m e in
     record { within = omega (arith, g.within); is = g.is; more = ap (λ (y : List Message). x ∷ y) g.more }
@@ -50,7 +51,9 @@ none-got (x ∷ q) (suc k) h e = none-got q k (omega (arith, h)) e
 
 in_queue-sum : (t : ℕ) (q : List Message) → in_queue t q ≡ sum_by (λ (m : Message). one (ticket_of m) t) q
 in_queue-sum t [] = refl
-in_queue-sum t (m ∷ q) = in_queue-cons t m q ∙ ap (λ (n : ℕ). one (ticket_of m) t + n) (in_queue-sum t q) ∙ sym (sum_by-cons (λ (x : Message). one (ticket_of x) t) m q)
+in_queue-sum t (m ∷ q) =
+    in_queue-cons t m q ∙ ap (λ (n : ℕ). one (ticket_of m) t + n) (in_queue-sum t q)
+    ∙ sym (sum_by-cons (λ (x : Message). one (ticket_of x) t) m q)
 
 abbrev counted : Bool → ℕ
 counted b = cond b 1 0
@@ -83,32 +86,68 @@ module _ (qs : Queues) (j k : ℕ) (m : Message) (inside : j < length qs) (g : G
       last = ap (λ (x : Message). one (ticket_of x) t) (g.is m) ∙ ap counted (test-same t)
 
       part : in_queue t (take k q) + 1 ≤ in_queue t q
-      part = omega (arith, last, in_queue-sum t (take k q), in_queue-sum t q, sum_by_more_le (λ (x : Message). one (ticket_of x) t) q k m g.within)
+      part = omega (
+        arith,
+        last,
+        in_queue-sum t (take k q),
+        in_queue-sum t q,
+        sum_by_more_le (λ (x : Message). one (ticket_of x) t) q k m g.within,
+      )
 
 -- the tickets before a message of a queue are less than its own
-before-all : (next : ℕ) (q : List Message) (k : ℕ) (m : Message) → k < length q → get_or q k m ≡ m → Ascends next q → All (λ x. ticket_of x < ticket_of m) (take k q)
+before-all : (next : ℕ) (q : List Message) (k : ℕ) (m : Message) → k < length q → get_or q k m ≡ m → Ascends next q
+    → All (λ x. ticket_of x < ticket_of m) (take k q)
 before-all next [] k m within is h = absurd (omega (arith, within))
 before-all next (x ∷ q) zero m within is h = All-nil (λ x. ticket_of x < ticket_of m)
 before-all next (x ∷ q) (suc k) m within is h =
-    All-cons (λ x. ticket_of x < ticket_of m) x (take k q) (subst (λ (y : Message). ticket_of x < ticket_of y) is (h.1 k m (omega (arith, within))))
+    All-cons (λ x. ticket_of x < ticket_of m) x (take k q)
+    (subst (λ (y : Message). ticket_of x < ticket_of y) is (h.1 k m (omega (arith, within))))
     (before-all next q k m (omega (arith, within)) is h.2)
 
 -- a message of a board has a buffer before it is queued
-has-buffer : (s : State) → IsBoardState s → (p j k : ℕ) (m : Message) (inside : j < length s.queues) (g : Got (get_or s.queues j []) k m) → (i : ℕ) → 16 * p ≤ j → IsHome s.ports p i m →
+has-buffer : (s : State) → IsBoardState s
+    → (p j k : ℕ) (m : Message) (inside : j < length s.queues) (g : Got (get_or s.queues j []) k m) → (i : ℕ)
+    → 16 * p ≤ j → IsHome s.ports p i m →
     HasBuffer (drafted s.queues j k m inside g) m
-has-buffer s h p j k (FromPort ticket port kind payload) inside g i place home =
-    (omega (arith, port-below s port _ home.1.1, h.buffers.ports, ap (λ n. most_ports (n / 16)) (length-set (front j s.queues []) j (take k (get_or s.queues j [])) ∙ length-front j s.queues [])), omega (arith, more-counted s.queues j k (FromPort ticket port kind payload) inside g (is_from_port port) (test-same port), h.buffers.room port))
+has-buffer s h p j k (FromPort ticket port kind payload) inside g i place home = (
+  omega (
+    arith,
+    port-below s port _ home.1.1,
+    h.buffers.ports,
+    ap (λ n. most_ports (n / 16))
+        (length-set (front j s.queues []) j (take k (get_or s.queues j [])) ∙ length-front j s.queues []),
+  ),
+  omega (
+    arith,
+    more-counted s.queues j k (FromPort ticket port kind payload) inside g (is_from_port port)
+        (test-same port),
+    h.buffers.room port,
+  ),
+)
 has-buffer s h p j k (FromTimer ticket timer expiration) inside g i place home = (
   there,
   free _
-      (omega (arith, more-counted s.queues j k (FromTimer ticket timer expiration) inside g (is_from_timer timer) itself, h.buffers.one_each timer)),
+      (omega (
+        arith,
+        more-counted s.queues j k (FromTimer ticket timer expiration) inside g
+            (is_from_timer timer) itself,
+        h.buffers.one_each timer,
+      )),
 )
   where
     m : Message
     m = FromTimer ticket timer expiration
 
     there : timer.0 < processors_of (drafted s.queues j k m inside g)
-    there = omega (arith, home.0, place, inside, h.sound.whole.queues, length-front j s.queues [], length-set (front j s.queues []) j (take k (get_or s.queues j [])))
+    there = omega (
+      arith,
+      home.0,
+      place,
+      inside,
+      h.sound.whole.queues,
+      length-front j s.queues [],
+      length-set (front j s.queues []) j (take k (get_or s.queues j [])),
+    )
 
     itself : is_from_timer timer (FromTimer ticket timer expiration) ≡ true
     itself = rw (test-same timer.0, test-same timer.1) refl
@@ -117,7 +156,8 @@ has-buffer s h p j k (FromTimer ticket timer expiration) inside g i place home =
     free n e = grind (arith, nat_tests)
 
 -- and its port has one of those that it was opened with
-has-share : (s : State) → IsBoardState s → (j k : ℕ) (m : Message) (inside : j < length s.queues) (g : Got (get_or s.queues j []) k m) (now : State) →
+has-share : (s : State) → IsBoardState s
+    → (j k : ℕ) (m : Message) (inside : j < length s.queues) (g : Got (get_or s.queues j []) k m) (now : State) →
     now.queues ≡ drafted s.queues j k m inside g → now.ports ≡ s.ports → IsWithinShare now m
 has-share s h j k (FromPort ticket port kind payload) inside g now queues ports = λ p e.
     omega (
@@ -128,13 +168,16 @@ has-share s h j k (FromPort ticket port kind payload) inside g now queues ports 
     )
 has-share s h j k (FromTimer ticket timer expiration) inside g now queues ports = tt
 
-module _ (s : State) (h : IsBoardState s) (t : State) (full : processors t ≡ processors s) (same_ports : t.ports ≡ s.ports) (next : t.next_ticket ≡ s.next_ticket) (no_slots : (x : ℕ) → in_slots x t.slots ≡ 0)
+module _ (s : State) (h : IsBoardState s) (t : State) (full : processors t ≡ processors s)
+    (same_ports : t.ports ≡ s.ports) (next : t.next_ticket ≡ s.next_ticket)
+    (no_slots : (x : ℕ) → in_slots x t.slots ≡ 0)
     (same_time : t.moment ≡ s.moment) where
   abbrev with_queues : Queues → State
   with_queues queues = record t { queues = queues }
 
   -- a message of a board may be queued before it is
-  joins : (p i k : ℕ) (m : Message) → i < 16 → (inside : 16 * p + i < length s.queues) (g : Got (get_or s.queues (16 * p + i) []) k m) →
+  joins : (p i k : ℕ) (m : Message) → i < 16
+      → (inside : 16 * p + i < length s.queues) (g : Got (get_or s.queues (16 * p + i) []) k m) →
       MayJoin (with_queues (drafted s.queues (16 * p + i) k m inside g)) p i m
   joins p i k m low inside g = record {
     message = subst IsMessage (g.is m) (h.sound.whole.messages j [] inside k m g.within);
@@ -144,7 +187,9 @@ module _ (s : State) (h : IsBoardState s) (t : State) (full : processors t ≡ p
     ticket = record { given = given; nowhere = nowhere };
     order = subst (λ (xs : List Message). All (λ x. ticket_of x < ticket_of m) xs) (sym drafted_queue)
         (before-all s.next_ticket (get_or s.queues j []) k m g.within (g.is m) (h.buffers.timed.order j));
-    time = subst (λ n. HasExpired n i m) (sym same_time) (subst (λ n. HasExpired s.moment n m) source (subst (HasExpired s.moment (j % 16)) (g.is m) (h.buffers.timed.timely j k m g.within)));
+    time = subst (λ n. HasExpired n i m) (sym same_time)
+        (subst (λ n. HasExpired s.moment n m) source
+        (subst (HasExpired s.moment (j % 16)) (g.is m) (h.buffers.timed.timely j k m g.within)));
   }
     where
       j : ℕ
@@ -154,7 +199,9 @@ module _ (s : State) (h : IsBoardState s) (t : State) (full : processors t ≡ p
       source = omega (arith, low)
 
       drafted_queue : get_or (drafted s.queues j k m inside g) j [] ≡ take k (get_or s.queues j [])
-      drafted_queue = get_or-set_same (front j s.queues []) j (take k (get_or s.queues j [])) [] (omega (arith, length-front j s.queues [], inside))
+      drafted_queue =
+          get_or-set_same (front j s.queues []) j (take k (get_or s.queues j [])) []
+          (omega (arith, length-front j s.queues [], inside))
 
       home : IsHome s.ports p i m
       home = subst (IsHome s.ports p i) (g.is m) (h.buffers.home p i low k m g.within)
@@ -173,10 +220,19 @@ module _ (s : State) (h : IsBoardState s) (t : State) (full : processors t ≡ p
         where
           by : (ticket_of m < t.next_ticket) ⊎ (t.next_ticket ≤ ticket_of m) → ticket_of m < t.next_ticket
           by (inl under) = under
-          by (inr over) = absurd (omega (arith, there, total, h.sound.tickets.given_before (ticket_of m) (omega (arith, over, next))))
+          by (inr over) =
+              absurd
+              (omega (arith, there, total, h.sound.tickets.given_before (ticket_of m) (omega (arith, over, next))))
 
       nowhere : times (ticket_of m) (locations board) ≡ 0
-      nowhere = omega (arith, there, total, h.sound.tickets.once (ticket_of m), times-locations (ticket_of m) board, no_slots (ticket_of m))
+      nowhere = omega (
+        arith,
+        there,
+        total,
+        h.sound.tickets.once (ticket_of m),
+        times-locations (ticket_of m) board,
+        no_slots (ticket_of m),
+      )
 
   -- a queue, message by message
   module _ (p i : ℕ) (below : p < processors s) (low : i < 16) where
@@ -198,15 +254,23 @@ module _ (s : State) (h : IsBoardState s) (t : State) (full : processors t ≡ p
     message-passed : (k : ℕ) → k < length q → Passes (queue-at k) (queued_lines s p i k) (queue-at (suc k))
     message-passed k within = by (slice_get q k) refl
       where
-        by : (o : Option Message) → slice_get q k ≡ o → Passes (queue-at k) (option_map_or (λ (m : Message). message_fields p i m ∷ []) o []) (queue-at (suc k))
+        by : (o : Option Message) → slice_get q k ≡ o
+            → Passes (queue-at k) (option_map_or (λ (m : Message). message_fields p i m ∷ []) o []) (queue-at (suc k))
         by None e = absurd (none-got q k within e)
         by (Some m) e =
             let g = got q k m e in
-            let now : get_or (set old j (take k q)) j [] ≡ take k q = get_or-set_same old j (take k q) [] (omega (arith, length-front j s.queues [], inside)) in
-            let new : set old j (take (suc k) q) ≡ set (set old j (take k q)) j (get_or (set old j (take k q)) j [] ++ m ∷ []) =
-            sym (set-set old j (take k q) (take (suc k) q)) ∙ ap (set (set old j (take k q)) j) (g.more ∙ ap (λ (y : List Message). y ++ m ∷ []) (sym now)) in
+            let now : get_or (set old j (take k q)) j [] ≡ take k q =
+            get_or-set_same old j (take k q) [] (omega (arith, length-front j s.queues [], inside)) in
+            let new : set old j (take (suc k) q)
+            ≡ set (set old j (take k q)) j (get_or (set old j (take k q)) j [] ++ m ∷ []) =
+            sym (set-set old j (take k q) (take (suc k) q))
+            ∙ ap (set (set old j (take k q)) j) (g.more ∙ ap (λ (y : List Message). y ++ m ∷ []) (sym now)) in
             passes-one (queue-at k) (pieces.Queued p i m) (queue-at (suc k)) (record {
-              fits = (omega (arith, h.settled.bound, below), omega (arith, low), subst HasMessageRanges (g.is m) (h.ranges.queues j [] inside k m g.within));
+              fits = (
+                omega (arith, h.settled.bound, below),
+                omega (arith, low),
+                subst HasMessageRanges (g.is m) (h.ranges.queues j [] inside k m g.within),
+              );
               later = λ last before. omega (arith, before);
               turn = sym full;
               restores = (omega (arith, full, below), low, joins p i k m low inside g, ap with_queues new);
@@ -225,7 +289,8 @@ module _ (s : State) (h : IsBoardState s) (t : State) (full : processors t ≡ p
         passes-from start (queue-at 0) end (queue_lines s p i)
         (ap with_queues (front-start j s.queues [] inside)) refl (omega arith)
         (passes-to (queue-at 0) (queue-at (length q)) end (queue_lines s p i)
-        (ap with_queues (following ∙ front-more j s.queues [] [] inside ∙ ap (set old j) (sym (take_all (length q) q (omega arith))))) refl (omega arith)
+        (ap with_queues (following ∙ front-more j s.queues [] [] inside
+        ∙ ap (set old j) (sym (take_all (length q) q (omega arith))))) refl (omega arith)
         (passes-each (length q) (queued_lines s p i) queue-at message-passed))
       where
         following : front (16 * p + suc i) s.queues [] ≡ front (suc (16 * p + i)) s.queues []
@@ -234,13 +299,17 @@ module _ (s : State) (h : IsBoardState s) (t : State) (full : processors t ≡ p
   abbrev queues-at : ℕ → ℕ → Point
   queues-at p i = point (with_queues (front (16 * p + i) s.queues [])) (processors s) (place 8 p i 0)
 
-  pub queues-passed : Passes (point (with_queues (replicate (16 * processors s) [])) (processors s) (place 8 0 0 0)) (each_below (processors s) (queues_lines s))
+  pub queues-passed : Passes (point (with_queues (replicate (16 * processors s) [])) (processors s) (place 8 0 0 0))
+      (each_below (processors s) (queues_lines s))
       (point (with_queues s.queues) (processors s) (place 9 0 0 0))
   queues-passed =
-      passes-from (point (with_queues (replicate (16 * processors s) [])) (processors s) (place 8 0 0 0)) (queues-at 0 0) (point (with_queues s.queues) (processors s) (place 9 0 0 0))
+      passes-from (point (with_queues (replicate (16 * processors s) [])) (processors s) (place 8 0 0 0))
+      (queues-at 0 0) (point (with_queues s.queues) (processors s) (place 9 0 0 0))
       (each_below (processors s) (queues_lines s)) (ap with_queues (sym none)) refl (omega arith)
-      (passes-to (queues-at 0 0) (queues-at (processors s) 0) (point (with_queues s.queues) (processors s) (place 9 0 0 0)) (each_below (processors s) (queues_lines s))
-      (ap with_queues (sym (front-whole s.queues [] (16 * processors s + 0) (omega (arith, h.shape.queues))))) refl (omega (arith, h.settled.bound))
+      (passes-to (queues-at 0 0) (queues-at (processors s) 0)
+      (point (with_queues s.queues) (processors s) (place 9 0 0 0)) (each_below (processors s) (queues_lines s))
+      (ap with_queues (sym (front-whole s.queues [] (16 * processors s + 0) (omega (arith, h.shape.queues))))) refl
+      (omega (arith, h.settled.bound))
       (passes-each (processors s) (queues_lines s) (λ p. queues-at p 0) step))
     where
       none : replicate (16 * processors s) [] ≡ front 0 s.queues []
@@ -249,5 +318,6 @@ module _ (s : State) (h : IsBoardState s) (t : State) (full : processors t ≡ p
       step : (p : ℕ) → p < processors s → Passes (queues-at p 0) (queues_lines s p) (queues-at (suc p) 0)
       step p below =
           let e : 16 * suc p + 0 ≡ 16 * p + 16 = omega arith in
-          passes-to (queues-at p 0) (queues-at p 16) (queues-at (suc p) 0) (queues_lines s p) (ap (λ (n : ℕ). with_queues (front n s.queues [])) e) refl (omega arith)
+          passes-to (queues-at p 0) (queues-at p 16) (queues-at (suc p) 0) (queues_lines s p)
+          (ap (λ (n : ℕ). with_queues (front n s.queues [])) e) refl (omega arith)
           (passes-each 16 (queue_lines s p) (queues-at p) (λ i low. queue-passed p i below low))

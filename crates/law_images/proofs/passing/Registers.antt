@@ -22,11 +22,13 @@ use Rattle.law_images.proofs.Tests.{same as same-value, other as other-value}
 use Rattle.law_images.proofs.Walks.{Point, point, Passes, Fits, passes-unless, passes-none, passes-append, passes-each, passes-from, passes-to}
 
 -- a write that is not refused
-legal-stored : (s : State) (p i value : ℕ) (new : State) → is_legal value ≡ true → new ≡ with_regs s p (with_value (regs_of s p) (registers.Source i) value) →
+legal-stored : (s : State) (p i value : ℕ) (new : State) → is_legal value ≡ true
+    → new ≡ with_regs s p (with_value (regs_of s p) (registers.Source i) value) →
     (new, Done, []) ≡ stored s p (registers.Source i) value
 legal-stored s p i value new legal e =
     ap (λ (x : State). unchanged x Done) e
-    ∙ sym (ap (λ (b : Bool). cond (not b) (unchanged s GeneralProtection) (unchanged (with_regs s p (with_value (regs_of s p) (registers.Source i) value)) Done)) legal)
+    ∙ sym (ap (λ (b : Bool). cond (not b) (unchanged s GeneralProtection)
+    (unchanged (with_regs s p (with_value (regs_of s p) (registers.Source i) value)) Done)) legal)
 
 module _ (s : State) (h : IsBoardState s) (t : State) (full : processors t ≡ processors s) where
   abbrev with_all : List Regs → State
@@ -40,18 +42,23 @@ module _ (s : State) (h : IsBoardState s) (t : State) (full : processors t ≡ p
   to p r at = point (board p r) (processors s) at
 
   put : (p : ℕ) (r : Regs) (register : Register) (value : ℕ) → p < processors s →
-      board p (with_value r register value) ≡ with_regs (board p r) p (with_value (regs_of (board p r) p) register value)
+      board p (with_value r register value)
+      ≡ with_regs (board p r) p (with_value (regs_of (board p r) p) register value)
   put p r register value below =
       let regs = front p s.regs reset_regs in
-      let same = get_or-set_same (front p s.regs reset_regs) p r reset_regs (omega (arith, length-front p s.regs reset_regs, h.sound.whole.registers, below)) in
+      let same = get_or-set_same (front p s.regs reset_regs) p r reset_regs
+      (omega (arith, length-front p s.regs reset_regs, h.sound.whole.registers, below)) in
       ap with_all (sym (set-set (front p s.regs reset_regs) p r (with_value r register value)))
       ∙ (λ i. with_all (set (set (front p s.regs reset_regs) p r) p (with_value (sym same i) register value)))
 
   -- a register, by its value; it is left out where it has its first one
-  changed : (p : ℕ) (r : ℕ → Regs) (x : Piece) (value first from upto : ℕ) → from ≤ upto → (value ≢ first → Fits (to p (r first) from) x (to p (r value) upto)) →
+  changed : (p : ℕ) (r : ℕ → Regs) (x : Piece) (value first from upto : ℕ) → from ≤ upto
+      → (value ≢ first → Fits (to p (r first) from) x (to p (r value) upto)) →
       Passes (to p (r first) from) (cond (value == first) [] (piece_fields x ∷ [])) (to p (r value) upto)
-  changed p r x value first from upto order new = passes-unless (value == first) (to p (r first) from) x (to p (r value) upto)
-      (λ e. passes-none (to p (r first) from) (to p (r value) upto) (ap (λ (v : ℕ). board p (r v)) (same-value value first e)) refl order)
+  changed p r x value first from upto order new =
+      passes-unless (value == first) (to p (r first) from) x (to p (r value) upto)
+      (λ e. passes-none (to p (r first) from) (to p (r value) upto)
+      (ap (λ (v : ℕ). board p (r v)) (same-value value first e)) refl order)
       (λ e. new (other-value value first e))
 
   module _ (p : ℕ) (below : p < processors s) where
@@ -82,35 +89,44 @@ module _ (s : State) (h : IsBoardState s) (t : State) (full : processors t ≡ p
     on : p < processors t
     on = omega (arith, full, below)
 
-    control-passed : Passes (to p (with_control 0) (place 3 p 0 0)) (changed_line p (codes "scontrol") now.control 0) (to p (with_control now.control) (place 3 p 1 0))
-    control-passed = changed p with_control (pieces.Control p now.control) now.control 0 (place 3 p 0 0) (place 3 p 1 0) (omega arith) (λ ne. record {
-      fits = (low, are.control);
-      later = λ last before. before;
-      turn = sym full;
-      restores = (on, ne, put p (with_control 0) registers.Control now.control below);
-      count = refl;
-      before = omega arith;
-    })
+    control-passed : Passes (to p (with_control 0) (place 3 p 0 0)) (changed_line p (codes "scontrol") now.control 0)
+        (to p (with_control now.control) (place 3 p 1 0))
+    control-passed =
+        changed p with_control (pieces.Control p now.control) now.control 0 (place 3 p 0 0) (place 3 p 1 0)
+        (omega arith) (λ ne. record {
+          fits = (low, are.control);
+          later = λ last before. before;
+          turn = sym full;
+          restores = (on, ne, put p (with_control 0) registers.Control now.control below);
+          count = refl;
+          before = omega arith;
+        })
 
-    sief-passed : Passes (to p (with_sief 0) (place 3 p 1 0)) (changed_line p (codes "siefp") now.sief 0) (to p (with_sief now.sief) (place 3 p 2 0))
-    sief-passed = changed p with_sief (pieces.Overlay p kinds.Sief now.sief) now.sief 0 (place 3 p 1 0) (place 3 p 2 0) (omega arith) (λ ne. record {
-      fits = (low, are.sief);
-      later = λ last before. before;
-      turn = sym full;
-      restores = (on, ne, put p (with_sief 0) registers.Sief now.sief below);
-      count = refl;
-      before = omega arith;
-    })
+    sief-passed : Passes (to p (with_sief 0) (place 3 p 1 0)) (changed_line p (codes "siefp") now.sief 0)
+        (to p (with_sief now.sief) (place 3 p 2 0))
+    sief-passed =
+        changed p with_sief (pieces.Overlay p kinds.Sief now.sief) now.sief 0 (place 3 p 1 0) (place 3 p 2 0)
+        (omega arith) (λ ne. record {
+          fits = (low, are.sief);
+          later = λ last before. before;
+          turn = sym full;
+          restores = (on, ne, put p (with_sief 0) registers.Sief now.sief below);
+          count = refl;
+          before = omega arith;
+        })
 
-    sim-passed : Passes (to p (with_sim 0) (place 3 p 2 0)) (changed_line p (codes "simp") now.sim 0) (to p (with_sim now.sim) (place 3 p 3 0))
-    sim-passed = changed p with_sim (pieces.Overlay p kinds.Sim now.sim) now.sim 0 (place 3 p 2 0) (place 3 p 3 0) (omega arith) (λ ne. record {
-      fits = (low, are.sim);
-      later = λ last before. before;
-      turn = sym full;
-      restores = (on, ne, put p (with_sim 0) registers.Sim now.sim below);
-      count = refl;
-      before = omega arith;
-    })
+    sim-passed : Passes (to p (with_sim 0) (place 3 p 2 0)) (changed_line p (codes "simp") now.sim 0)
+        (to p (with_sim now.sim) (place 3 p 3 0))
+    sim-passed =
+        changed p with_sim (pieces.Overlay p kinds.Sim now.sim) now.sim 0 (place 3 p 2 0) (place 3 p 3 0)
+        (omega arith) (λ ne. record {
+          fits = (low, are.sim);
+          later = λ last before. before;
+          turn = sym full;
+          restores = (on, ne, put p (with_sim 0) registers.Sim now.sim below);
+          count = refl;
+          before = omega arith;
+        })
 
     abbrev sources-at : ℕ → Point
     sources-at i = to p (with_sources (front i now.sints masked)) (place 3 p (3 + i) 0)
@@ -120,11 +136,14 @@ module _ (s : State) (h : IsBoardState s) (t : State) (full : processors t ≡ p
 
     source-passed : (i : ℕ) → i < 16 → Passes (sources-at i) (source_lines s p i) (sources-at (suc i))
     source-passed i within =
-        passes-from (sources-at i) (to p (with_source i masked) (place 3 p (3 + i) 0)) (sources-at (suc i)) (source_lines s p i)
+        passes-from (sources-at i) (to p (with_source i masked) (place 3 p (3 + i) 0)) (sources-at (suc i))
+        (source_lines s p i)
         (ap (λ (xs : List ℕ). board p (with_sources xs)) (front-start i now.sints masked inside)) refl (omega arith)
-        (passes-to (to p (with_source i masked) (place 3 p (3 + i) 0)) (to p (with_source i value) (place 3 p (3 + suc i) 0)) (sources-at (suc i)) (source_lines s p i)
+        (passes-to (to p (with_source i masked) (place 3 p (3 + i) 0))
+        (to p (with_source i value) (place 3 p (3 + suc i) 0)) (sources-at (suc i)) (source_lines s p i)
         (ap (λ (xs : List ℕ). board p (with_sources xs)) (front-more i now.sints masked 0 inside)) refl (omega arith)
-        (changed p (with_source i) (pieces.Source p i value) value masked (place 3 p (3 + i) 0) (place 3 p (3 + suc i) 0) (omega arith) (λ ne. record {
+        (changed p (with_source i) (pieces.Source p i value) value masked (place 3 p (3 + i) 0)
+        (place 3 p (3 + suc i) 0) (omega arith) (λ ne. record {
           fits = (low, within, is.0);
           later = λ last before. before;
           turn = sym full;
@@ -132,7 +151,9 @@ module _ (s : State) (h : IsBoardState s) (t : State) (full : processors t ≡ p
             on,
             ne,
             legal-stored (board p (with_source i masked)) p i value (board p (with_source i value)) is.1
-                (ap (λ (xs : List ℕ). board p (with_sources xs)) (sym (set-set (front i now.sints masked) i masked value)) ∙ put p (with_source i masked) (registers.Source i) value below),
+                (ap (λ (xs : List ℕ). board p (with_sources xs))
+                (sym (set-set (front i now.sints masked) i masked value))
+                ∙ put p (with_source i masked) (registers.Source i) value below),
           );
           count = refl;
           before = omega arith;
@@ -149,19 +170,27 @@ module _ (s : State) (h : IsBoardState s) (t : State) (full : processors t ≡ p
 
     registers-passed : Passes (to p reset_regs (place 3 p 0 0)) (register_lines s p) (to p now (place 3 (suc p) 0 0))
     registers-passed =
-        passes-append (to p (with_control 0) (place 3 p 0 0)) (to p (with_control now.control) (place 3 p 1 0)) (to p now (place 3 (suc p) 0 0))
-        (changed_line p (codes "scontrol") now.control 0) (changed_line p (codes "siefp") now.sief 0 ++ (changed_line p (codes "simp") now.sim 0 ++ each_below 16 (source_lines s p)))
+        passes-append (to p (with_control 0) (place 3 p 0 0)) (to p (with_control now.control) (place 3 p 1 0))
+        (to p now (place 3 (suc p) 0 0))
+        (changed_line p (codes "scontrol") now.control 0)
+        (changed_line p (codes "siefp") now.sief 0
+        ++ (changed_line p (codes "simp") now.sim 0 ++ each_below 16 (source_lines s p)))
         control-passed
-        (passes-append (to p (with_sief 0) (place 3 p 1 0)) (to p (with_sief now.sief) (place 3 p 2 0)) (to p now (place 3 (suc p) 0 0))
-        (changed_line p (codes "siefp") now.sief 0) (changed_line p (codes "simp") now.sim 0 ++ each_below 16 (source_lines s p))
+        (passes-append (to p (with_sief 0) (place 3 p 1 0)) (to p (with_sief now.sief) (place 3 p 2 0))
+        (to p now (place 3 (suc p) 0 0))
+        (changed_line p (codes "siefp") now.sief 0)
+        (changed_line p (codes "simp") now.sim 0 ++ each_below 16 (source_lines s p))
         sief-passed
-        (passes-append (to p (with_sim 0) (place 3 p 2 0)) (to p (with_sim now.sim) (place 3 p 3 0)) (to p now (place 3 (suc p) 0 0))
+        (passes-append (to p (with_sim 0) (place 3 p 2 0)) (to p (with_sim now.sim) (place 3 p 3 0))
+        (to p now (place 3 (suc p) 0 0))
         (changed_line p (codes "simp") now.sim 0) (each_below 16 (source_lines s p))
         sim-passed
-        (passes-from (to p (with_sim now.sim) (place 3 p 3 0)) (sources-at 0) (to p now (place 3 (suc p) 0 0)) (each_below 16 (source_lines s p))
+        (passes-from (to p (with_sim now.sim) (place 3 p 3 0)) (sources-at 0) (to p now (place 3 (suc p) 0 0))
+        (each_below 16 (source_lines s p))
         (ap (λ (xs : List ℕ). board p (with_sources xs)) (sym none)) refl (omega arith)
         (passes-to (sources-at 0) (sources-at 16) (to p now (place 3 (suc p) 0 0)) (each_below 16 (source_lines s p))
-        (ap (λ (xs : List ℕ). board p (with_sources xs)) (sym (front-whole now.sints masked 16 (omega (arith, are.sixteen))))) refl (omega arith)
+        (ap (λ (xs : List ℕ). board p (with_sources xs))
+        (sym (front-whole now.sints masked 16 (omega (arith, are.sixteen))))) refl (omega arith)
         (passes-each 16 (source_lines s p) sources-at source-passed)))))
       where
         none : no_sources ≡ front 0 now.sints masked
@@ -170,13 +199,17 @@ module _ (s : State) (h : IsBoardState s) (t : State) (full : processors t ≡ p
   abbrev regs-at : ℕ → Point
   regs-at p = point (with_all (front p s.regs reset_regs)) (processors s) (place 3 p 0 0)
 
-  pub regs-passed : Passes (point (with_all (replicate (processors s) reset_regs)) (processors s) (place 3 0 0 0)) (each_below (processors s) (register_lines s))
+  pub regs-passed : Passes (point (with_all (replicate (processors s) reset_regs)) (processors s) (place 3 0 0 0))
+      (each_below (processors s) (register_lines s))
       (point (with_all s.regs) (processors s) (place 4 0 0 0))
   regs-passed =
-      passes-from (point (with_all (replicate (processors s) reset_regs)) (processors s) (place 3 0 0 0)) (regs-at 0) (point (with_all s.regs) (processors s) (place 4 0 0 0))
+      passes-from (point (with_all (replicate (processors s) reset_regs)) (processors s) (place 3 0 0 0)) (regs-at 0)
+      (point (with_all s.regs) (processors s) (place 4 0 0 0))
       (each_below (processors s) (register_lines s)) (ap with_all (sym none)) refl (omega arith)
-      (passes-to (regs-at 0) (regs-at (processors s)) (point (with_all s.regs) (processors s) (place 4 0 0 0)) (each_below (processors s) (register_lines s))
-      (ap with_all (sym (front-whole s.regs reset_regs (processors s) (omega (arith, h.sound.whole.registers))))) refl (omega (arith, h.settled.bound))
+      (passes-to (regs-at 0) (regs-at (processors s)) (point (with_all s.regs) (processors s) (place 4 0 0 0))
+      (each_below (processors s) (register_lines s))
+      (ap with_all (sym (front-whole s.regs reset_regs (processors s) (omega (arith, h.sound.whole.registers))))) refl
+      (omega (arith, h.settled.bound))
       (passes-each (processors s) (register_lines s) regs-at step))
     where
       none : replicate (processors s) reset_regs ≡ front 0 s.regs reset_regs
@@ -187,6 +220,7 @@ module _ (s : State) (h : IsBoardState s) (t : State) (full : processors t ≡ p
           let inside : p < length s.regs = omega (arith, h.sound.whole.registers, below) in
           passes-from (regs-at p) (to p reset_regs (place 3 p 0 0)) (regs-at (suc p)) (register_lines s p)
           (ap with_all (front-start p s.regs reset_regs inside)) refl (omega arith)
-          (passes-to (to p reset_regs (place 3 p 0 0)) (to p (regs_of s p) (place 3 (suc p) 0 0)) (regs-at (suc p)) (register_lines s p)
+          (passes-to (to p reset_regs (place 3 p 0 0)) (to p (regs_of s p) (place 3 (suc p) 0 0)) (regs-at (suc p))
+          (register_lines s p)
           (ap with_all (front-more p s.regs reset_regs reset_regs inside)) refl (omega arith)
           (registers-passed p below))

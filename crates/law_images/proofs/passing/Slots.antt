@@ -18,7 +18,8 @@ use Rattle.law_images.proofs.Fronts.{front, front-none, front-more, front-start,
 use Rattle.law_images.proofs.Tests.{test-same, same}
 use Rattle.law_images.proofs.Walks.{Point, point, Passes, passes-one, passes-none, passes-each, passes-from, passes-to}
 
-module _ (s : State) (h : IsBoardState s) (t : State) (full : processors t ≡ processors s) (next : t.next_ticket ≡ s.next_ticket) (pages : t.own ≡ s.own) (queues : t.queues ≡ s.queues) where
+module _ (s : State) (h : IsBoardState s) (t : State) (full : processors t ≡ processors s)
+    (next : t.next_ticket ≡ s.next_ticket) (pages : t.own ≡ s.own) (queues : t.queues ≡ s.queues) where
   abbrev with_slots : List (Option ℕ) → State
   with_slots slots = record t { slots = slots }
 
@@ -39,7 +40,8 @@ module _ (s : State) (h : IsBoardState s) (t : State) (full : processors t ≡ p
     there : in_slots x (front (16 * p + i) s.slots None) + 1 ≤ in_slots x s.slots
     there =
         let same = ap (in_slots x) (front-start j s.slots None inside) in
-        let last : in_slot x (get_or s.slots j None) ≡ 1 = ap (in_slot x) is ∙ ap (λ (b : Bool). cond b 1 0) (test-same x) in
+        let last : in_slot x (get_or s.slots j None) ≡ 1 =
+        ap (in_slot x) is ∙ ap (λ (b : Bool). cond b 1 0) (test-same x) in
         omega (arith, same, front-sum-room (in_slot x) j 1 s.slots None None refl inside (omega (arith, last)))
 
     total : times x (locations s) ≡ in_queues x s.queues + in_slots x s.slots
@@ -56,7 +58,8 @@ module _ (s : State) (h : IsBoardState s) (t : State) (full : processors t ≡ p
     nowhere = omega (arith, there, total, h.sound.tickets.once x, times-locations x board, ap (in_queues x) queues)
 
     occupied : is_slot_empty board p i ≡ false
-    occupied = ap (λ (own : List (List ℕ)). slot_type (get_or own (2 * p) []) i == 0) pages ∙ by (slot_type (own_page (space_of s) p Sim) i == 0) refl
+    occupied = ap (λ (own : List (List ℕ)). slot_type (get_or own (2 * p) []) i == 0) pages
+        ∙ by (slot_type (own_page (space_of s) p Sim) i == 0) refl
       where
         by : (b : Bool) → (slot_type (own_page (space_of s) p Sim) i == 0) ≡ b → b ≡ false
         by true e =
@@ -78,28 +81,38 @@ module _ (s : State) (h : IsBoardState s) (t : State) (full : processors t ≡ p
       following = let e : 16 * p + suc i ≡ suc (16 * p + i) = omega arith in ap (λ (n : ℕ). front n s.slots None) e
 
       by : (o : Option ℕ) → slot_of s p i ≡ o → Passes (slots-at p i) (slot_line p i o) (slots-at p (suc i))
-      by None e = passes-none (slots-at p i) (slots-at p (suc i)) (ap with_slots (following ∙ front-still (16 * p + i) s.slots None e)) refl (omega arith)
+      by None e = passes-none (slots-at p i) (slots-at p (suc i))
+          (ap with_slots (following ∙ front-still (16 * p + i) s.slots None e)) refl (omega arith)
       by (Some x) e = passes-one (slots-at p i) (pieces.Slot p i x) (slots-at p (suc i)) (record {
-        fits = (omega (arith, h.settled.bound, below), omega (arith, low), omega (arith, given p i x below low e, h.ranges.next_ticket));
+        fits = (
+          omega (arith, h.settled.bound, below),
+          omega (arith, low),
+          omega (arith, given p i x below low e, h.ranges.next_ticket),
+        );
         later = λ last before. before;
         turn = sym full;
         restores = (
           omega (arith, full, below),
           low,
           occupies p i x below low e,
-          ap with_slots (following ∙ front-more (16 * p + i) s.slots None None (inside p i x below low e) ∙ ap (set (front (16 * p + i) s.slots None) (16 * p + i)) e),
+          ap with_slots (following ∙ front-more (16 * p + i) s.slots None None (inside p i x below low e)
+              ∙ ap (set (front (16 * p + i) s.slots None) (16 * p + i)) e),
         );
         count = refl;
         before = omega arith;
       })
 
-  pub slots-passed : Passes (point (with_slots (replicate (16 * processors s) None)) (processors s) (place 9 0 0 0)) (each_below (processors s) (slots_lines s))
+  pub slots-passed : Passes (point (with_slots (replicate (16 * processors s) None)) (processors s) (place 9 0 0 0))
+      (each_below (processors s) (slots_lines s))
       (point (with_slots s.slots) (processors s) (place 10 0 0 0))
   slots-passed =
-      passes-from (point (with_slots (replicate (16 * processors s) None)) (processors s) (place 9 0 0 0)) (slots-at 0 0) (point (with_slots s.slots) (processors s) (place 10 0 0 0))
+      passes-from (point (with_slots (replicate (16 * processors s) None)) (processors s) (place 9 0 0 0))
+      (slots-at 0 0) (point (with_slots s.slots) (processors s) (place 10 0 0 0))
       (each_below (processors s) (slots_lines s)) (ap with_slots (sym none)) refl (omega arith)
-      (passes-to (slots-at 0 0) (slots-at (processors s) 0) (point (with_slots s.slots) (processors s) (place 10 0 0 0)) (each_below (processors s) (slots_lines s))
-      (ap with_slots (sym (front-whole s.slots None (16 * processors s + 0) (omega (arith, h.shape.slots))))) refl (omega (arith, h.settled.bound))
+      (passes-to (slots-at 0 0) (slots-at (processors s) 0)
+      (point (with_slots s.slots) (processors s) (place 10 0 0 0)) (each_below (processors s) (slots_lines s))
+      (ap with_slots (sym (front-whole s.slots None (16 * processors s + 0) (omega (arith, h.shape.slots))))) refl
+      (omega (arith, h.settled.bound))
       (passes-each (processors s) (slots_lines s) (λ p. slots-at p 0) step))
     where
       none : replicate (16 * processors s) None ≡ front 0 s.slots None
@@ -108,5 +121,6 @@ module _ (s : State) (h : IsBoardState s) (t : State) (full : processors t ≡ p
       step : (p : ℕ) → p < processors s → Passes (slots-at p 0) (slots_lines s p) (slots-at (suc p) 0)
       step p below =
           let e : 16 * suc p + 0 ≡ 16 * p + 16 = omega arith in
-          passes-to (slots-at p 0) (slots-at p 16) (slots-at (suc p) 0) (slots_lines s p) (ap (λ (n : ℕ). with_slots (front n s.slots None)) e) refl (omega arith)
+          passes-to (slots-at p 0) (slots-at p 16) (slots-at (suc p) 0) (slots_lines s p)
+          (ap (λ (n : ℕ). with_slots (front n s.slots None)) e) refl (omega arith)
           (passes-each 16 (slot_lines s p) (slots-at p) (λ i low. slot-passed p i below low))

@@ -23,7 +23,8 @@ known-none (Some x) e = absurd (cc)
 is-idle : (x : Timer) → ((x.config == 0) && ((x.count == 0) && is_none x.due)) ≡ true → x ≡ idle_timer
 is-idle x e = by (x.config == 0) (x.count == 0) (is_none x.due) refl refl refl e
   where
-    by : (a b c : Bool) → (x.config == 0) ≡ a → (x.count == 0) ≡ b → is_none x.due ≡ c → (a && (b && c)) ≡ true → x ≡ idle_timer
+    by : (a b c : Bool) → (x.config == 0) ≡ a → (x.count == 0) ≡ b → is_none x.due ≡ c → (a && (b && c)) ≡ true
+        → x ≡ idle_timer
     by true true true a b c e =
         let config = same x.config 0 a in
         let count = same x.count 0 b in
@@ -33,7 +34,8 @@ is-idle x e = by (x.config == 0) (x.count == 0) (is_none x.due) refl refl refl e
     by true false z a b c e = absurd (cc)
     by false y z a b c e = absurd (cc)
 
-module _ (s : State) (h : IsBoardState s) (t : State) (full : processors t ≡ processors s) (same_time : t.moment ≡ s.moment) where
+module _ (s : State) (h : IsBoardState s) (t : State) (full : processors t ≡ processors s)
+    (same_time : t.moment ≡ s.moment) where
   abbrev with_timers : List Timer → State
   with_timers timers = record t { timers = timers }
 
@@ -41,13 +43,22 @@ module _ (s : State) (h : IsBoardState s) (t : State) (full : processors t ≡ p
   timers-at p i = point (with_timers (front (4 * p + i) s.timers idle_timer)) (processors s) (place 7 p i 0)
 
   timer-passed : (p i : ℕ) → p < processors s → i < 4 → Passes (timers-at p i) (timer_lines s p i) (timers-at p (suc i))
-  timer-passed p i below low = passes-unless ((x.config == 0) && ((x.count == 0) && is_none x.due)) (timers-at p i) (pieces.Timer p i x.config x.count x.due) (timers-at p (suc i))
-      (λ e. passes-none (timers-at p i) (timers-at p (suc i)) (ap with_timers (next ∙ front-still j s.timers idle_timer (is-idle x e))) refl (omega arith))
+  timer-passed p i below low =
+      passes-unless ((x.config == 0) && ((x.count == 0) && is_none x.due)) (timers-at p i)
+      (pieces.Timer p i x.config x.count x.due) (timers-at p (suc i))
+      (λ e. passes-none (timers-at p i) (timers-at p (suc i))
+      (ap with_timers (next ∙ front-still j s.timers idle_timer (is-idle x e))) refl (omega arith))
       (λ e. record {
         fits = (omega (arith, h.settled.bound, below), omega (arith, low), is.0, is.1, is.2);
         later = λ last before. before;
         turn = sym full;
-        restores = (omega (arith, full, below), low, e, record { sound = h.timers j; near = subst (λ m. IsNear m x) (sym same_time) (h.buffers.timed.near j) }, ap with_timers (next ∙ front-more j s.timers idle_timer idle_timer inside));
+        restores = (
+          omega (arith, full, below),
+          low,
+          e,
+          record { sound = h.timers j; near = subst (λ m. IsNear m x) (sym same_time) (h.buffers.timed.near j) },
+          ap with_timers (next ∙ front-more j s.timers idle_timer idle_timer inside),
+        );
         count = refl;
         before = omega arith;
       })
@@ -67,12 +78,16 @@ module _ (s : State) (h : IsBoardState s) (t : State) (full : processors t ≡ p
       next : front (4 * p + suc i) s.timers idle_timer ≡ front (suc (4 * p + i)) s.timers idle_timer
       next = let e : 4 * p + suc i ≡ suc (4 * p + i) = omega arith in ap (λ (k : ℕ). front k s.timers idle_timer) e
 
-  pub timers-passed : Passes (point (with_timers (replicate (4 * processors s) idle_timer)) (processors s) (place 7 0 0 0)) (each_below (processors s) (timers_lines s))
+  pub timers-passed : Passes
+      (point (with_timers (replicate (4 * processors s) idle_timer)) (processors s) (place 7 0 0 0))
+      (each_below (processors s) (timers_lines s))
       (point (with_timers s.timers) (processors s) (place 8 0 0 0))
   timers-passed =
-      passes-from (point (with_timers (replicate (4 * processors s) idle_timer)) (processors s) (place 7 0 0 0)) (timers-at 0 0) (point (with_timers s.timers) (processors s) (place 8 0 0 0))
+      passes-from (point (with_timers (replicate (4 * processors s) idle_timer)) (processors s) (place 7 0 0 0))
+      (timers-at 0 0) (point (with_timers s.timers) (processors s) (place 8 0 0 0))
       (each_below (processors s) (timers_lines s)) (ap with_timers (sym none)) refl (omega arith)
-      (passes-to (timers-at 0 0) (timers-at (processors s) 0) (point (with_timers s.timers) (processors s) (place 8 0 0 0)) (each_below (processors s) (timers_lines s))
+      (passes-to (timers-at 0 0) (timers-at (processors s) 0)
+      (point (with_timers s.timers) (processors s) (place 8 0 0 0)) (each_below (processors s) (timers_lines s))
       (ap with_timers (sym all)) refl (omega (arith, h.settled.bound))
       (passes-each (processors s) (timers_lines s) (λ p. timers-at p 0) step))
     where
@@ -80,10 +95,12 @@ module _ (s : State) (h : IsBoardState s) (t : State) (full : processors t ≡ p
       none = ap (λ (n : ℕ). replicate n idle_timer) (sym h.shape.timers) ∙ front-none s.timers idle_timer
 
       all : front (4 * processors s + 0) s.timers idle_timer ≡ s.timers
-      all = front-all (4 * processors s + 0) s.timers idle_timer (λ j up below. get_or_past s.timers j idle_timer (omega (arith, up, h.shape.timers)))
+      all = front-all (4 * processors s + 0) s.timers idle_timer
+          (λ j up below. get_or_past s.timers j idle_timer (omega (arith, up, h.shape.timers)))
 
       step : (p : ℕ) → p < processors s → Passes (timers-at p 0) (timers_lines s p) (timers-at (suc p) 0)
       step p below =
           let e : 4 * suc p + 0 ≡ 4 * p + 4 = omega arith in
-          passes-to (timers-at p 0) (timers-at p 4) (timers-at (suc p) 0) (timers_lines s p) (ap (λ (k : ℕ). with_timers (front k s.timers idle_timer)) e) refl (omega arith)
+          passes-to (timers-at p 0) (timers-at p 4) (timers-at (suc p) 0) (timers_lines s p)
+          (ap (λ (k : ℕ). with_timers (front k s.timers idle_timer)) e) refl (omega arith)
           (passes-each 4 (timer_lines s p) (timers-at p) (λ i low. timer-passed p i below low))

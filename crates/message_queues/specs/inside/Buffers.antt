@@ -1,4 +1,5 @@
--- Buffers, by their parts: the keys of a buffer's neighbours are in a slab, and its message is in a list at the same key.
+-- Buffers, by their parts: the keys of a buffer's neighbours are in a slab, and its message is in a list at the same
+-- key.
 use Rattle.std.specs.Prelude.{ℕ, List, slice_index_or, Option}
 use Rattle.std.specs.Option.{option_map}
 use Rattle.slab.specs.Slab.{Slab, get}

@@ -1,4 +1,5 @@
--- Queues as doubly linked chains of buffers: each buffer has the keys of its neighbours, each queue the keys of its ends.
+-- Queues as doubly linked chains of buffers: each buffer has the keys of its neighbours, each queue the keys of its
+-- ends.
 use Rattle.std.specs.Prelude.{◌≡◌, ℕ, zero, suc, ◌≤◌, List, [], ◌∷◌, length, map, reverse, slice_get, Option, Some, None}
 use Rattle.std.specs.Option.{option_and_then}
 use Rattle.board_terms.specs.declared.messages.Message.{Message}
@@ -43,17 +44,24 @@ key_at (suc n) buffers from = option_and_then (λ key. behind_of (buffers key)) 
 
 -- from its end a chain has the same keys as from its front, in reverse
 abbrev pub ReadsBothWays : Buffers → Chain → Type 0
-ReadsBothWays buffers chain = keys_from (λ b. b.before) buffers chain.len chain.last ≡ reverse (keys_from (λ b. b.behind) buffers chain.len chain.first)
+ReadsBothWays buffers chain =
+    keys_from (λ b. b.before) buffers chain.len chain.last
+    ≡ reverse (keys_from (λ b. b.behind) buffers chain.len chain.first)
 
--- These keys follow one another from `from` on; `before` precedes the first of them, and `to` follows the last of them, which is `last`. The back
--- link of each is the key that it follows, so from the end the keys are the same. They belong to the queue, and their ranks increase from `low` on
+-- These keys follow one another from `from` on; `before` precedes the first of them, and `to` follows the last of
+-- them, which is `last`. The back
+-- link of each is the key that it follows, so from the end the keys are the same. They belong to the queue, and their
+-- ranks increase from `low` on
 -- and stay below `top`, so no key occurs twice.
 abbrev pub Links : Buffers → (ℕ → ℕ) → (ℕ → ℕ) → ℕ → ℕ → Option ℕ → Option ℕ → List ℕ → Option ℕ → Option ℕ → ℕ → Type 0
 Links buffers owner rank queue low before from [] to last top = (from ≡ to) × (last ≡ before) × (low ≤ top)
-Links buffers owner rank queue low before from (key ∷ keys) to last top = (b : Buffer) × (from ≡ Some key) × (owner key ≡ queue) × (low ≤ rank key)
-    × (buffers key ≡ Some b) × (b.before ≡ before) × Links buffers owner rank queue (suc (rank key)) (Some key) b.behind keys to last top
+Links buffers owner rank queue low before from (key ∷ keys) to last top =
+    (b : Buffer) × (from ≡ Some key) × (owner key ≡ queue) × (low ≤ rank key)
+    × (buffers key ≡ Some b) × (b.before ≡ before)
+    × Links buffers owner rank queue (suc (rank key)) (Some key) b.behind keys to last top
 
--- A chain: its keys are linked from its first to its last, nothing precedes the first or follows the last, and its length is their number.
+-- A chain: its keys are linked from its first to its last, nothing precedes the first or follows the last, and its
+-- length is their number.
 pub record IsChain (buffers : Buffers) (owner rank : ℕ → ℕ) (queue : ℕ) (chain : Chain) : Type 0 where
   pub keys : List ℕ
   pub top : ℕ

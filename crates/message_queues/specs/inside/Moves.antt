@@ -36,7 +36,8 @@ abbrev pub if_none : Option ℕ → Option ℕ → Option ℕ → Option ℕ
 if_none None it else_it = it
 if_none (Some k) it else_it = else_it
 
--- A key that was free follows the last one of the chain, and of the other neighbours only those of the last one changed.
+-- A key that was free follows the last one of the chain, and of the other neighbours only those of the last one
+-- changed.
 pub record Linked (old new : Neighbourhoods) (c d : Chain) (key : ℕ) : Type 0 where
   pub free : old key ≡ None
   pub here : c.last ≢ Some key → new key ≡ Some (record { before = c.last; behind = None })
@@ -49,8 +50,10 @@ pub record Linked (old new : Neighbourhoods) (c d : Chain) (key : ℕ) : Type 0 
 -- The key is free, and its neighbours n are linked to each other.
 pub record Freed (old new : Neighbourhoods) (c d : Chain) (key : ℕ) (n : Neighbours) : Type 0 where
   pub was : old key ≡ Some n
-  pub left : (k : ℕ) → k ≢ key → n.before ≡ Some k → n.behind ≢ Some k → new k ≡ option_map (followed_by n.behind) (old k)
-  pub right : (k : ℕ) → k ≢ key → n.before ≢ Some k → n.behind ≡ Some k → new k ≡ option_map (preceded_by n.before) (old k)
+  pub left : (k : ℕ) → k ≢ key → n.before ≡ Some k → n.behind ≢ Some k
+      → new k ≡ option_map (followed_by n.behind) (old k)
+  pub right : (k : ℕ) → k ≢ key → n.before ≢ Some k → n.behind ≡ Some k
+      → new k ≡ option_map (preceded_by n.before) (old k)
   pub others : (k : ℕ) → k ≢ key → n.before ≢ Some k → n.behind ≢ Some k → new k ≡ old k
   pub first : d.first ≡ if_none n.before n.behind c.first
   pub last : d.last ≡ if_none n.behind n.before c.last
@@ -70,15 +73,18 @@ pub record Pushed (old new : Buffers) (c d : Chain) (message : Message) (key : �
 pub record Unlinked (old new : Buffers) (c d : Chain) (key : ℕ) (b : Buffer) (message : Message) : Type 0 where
   pub was : old key ≡ Some b
   pub message_is : message ≡ b.message
-  pub left : (k : ℕ) → k ≢ key → b.before ≡ Some k → b.behind ≢ Some k → new k ≡ option_map (with_behind b.behind) (old k)
-  pub right : (k : ℕ) → k ≢ key → b.before ≢ Some k → b.behind ≡ Some k → new k ≡ option_map (with_before b.before) (old k)
+  pub left : (k : ℕ) → k ≢ key → b.before ≡ Some k → b.behind ≢ Some k
+      → new k ≡ option_map (with_behind b.behind) (old k)
+  pub right : (k : ℕ) → k ≢ key → b.before ≢ Some k → b.behind ≡ Some k
+      → new k ≡ option_map (with_before b.before) (old k)
   pub others : (k : ℕ) → k ≢ key → b.before ≢ Some k → b.behind ≢ Some k → new k ≡ old k
   pub first : d.first ≡ if_none b.before b.behind c.first
   pub last : d.last ≡ if_none b.behind b.before c.last
   pub len : d.len + 1 ≡ c.len
 
 -- The port's messages were removed from the chain of a queue, and no buffer of another queue changed.
-pub record Withdrawn (old new : Buffers) (owner rank : ℕ → ℕ) (queue : ℕ) (c d : Chain) (port : ℕ) (tickets : List ℕ) : Type 0 where
+pub record Withdrawn (old new : Buffers) (owner rank : ℕ → ℕ) (queue : ℕ) (c d : Chain) (port : ℕ)
+    (tickets : List ℕ) : Type 0 where
   pub after : IsChain new owner rank queue d
   pub stay : queue_at new d ≡ left_of port (queue_at old c)
   pub tickets_are : tickets ≡ withdrawn_of port (queue_at old c)

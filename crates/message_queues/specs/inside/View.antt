@@ -21,12 +21,15 @@ queues_of a = queues_at (buffers_of a) a.chains.items
 abbrev pub total_of : List Chain → ℕ
 total_of chains = sum_by (λ (c : Chain). c.len) chains
 
--- No key occurs in two chains or twice in one, and there are as many buffers as keys in the chains. So each key of the slab occurs in exactly one
--- chain, once. There is capacity for the shares of all owners, and a message for each key. Each processor has 16 chains.
+-- No key occurs in two chains or twice in one, and there are as many buffers as keys in the chains. So each key of
+-- the slab occurs in exactly one
+-- chain, once. There is capacity for the shares of all owners, and a message for each key. Each processor has 16
+-- chains.
 pub record QueuesInvariant (a : Inside) : Type 0 where
   pub linked : AreChains (buffers_of a) a.chains.items
   pub held : slab_len a.neighbours ≡ total_of a.chains.items
-  pub both_ways : (queue : ℕ) (chain : Chain) → slice_get a.chains.items queue ≡ Some chain → ReadsBothWays (buffers_of a) chain
+  pub both_ways : (queue : ℕ) (chain : Chain) → slice_get a.chains.items queue ≡ Some chain
+      → ReadsBothWays (buffers_of a) chain
   pub room : 16 * most_ports a.processors + 4 * a.processors ≤ a.neighbours.capacity
   pub size : length a.messages.items ≡ a.neighbours.capacity
   pub owned : All (λ (queue : List Message). All (HasOwner a.processors) queue) (queues_of a)

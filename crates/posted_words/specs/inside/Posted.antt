@@ -31,7 +31,8 @@ pub record Posted (key : ℕ × ℕ) (s : State (Unit {0}) View) : Type 0 where
   pub width : length s.words ≡ key.0
   pub whole : sum_by (λ v. v.parts) s.views ≡ key.1
   pub idle : All IsIdle s.views
-  pub even : (w b : ℕ) → w < key.0 → views_fresh s.views w b ≡ views_taken s.views w b + bit_at (slice_index s.words w) b
+  pub even : (w b : ℕ) → w < key.0
+      → views_fresh s.views w b ≡ views_taken s.views w b + bit_at (slice_index s.words w) b
   pub bounded : All (IsBounded (views_fresh s.views) (views_taken s.views)) s.views
 
 -- one more step of the first token

@@ -53,9 +53,11 @@ pub record IsStoredAt (start : State) (word : ℕ) (history : List Entry) (old n
 abbrev pub Knows : State → Logs → ℕ → ℕ → View → Type 0
 Knows start logs writer id (Writes s own) = (s.value.state ≡ start) × (id ≡ writer) × (own ≡ logs)
 Knows start logs writer id (Marks s own) = (s.value.state ≡ start) × ((i : ℕ) → IsPrefix (log_at own i) (log_at logs i))
-Knows start logs writer id (Reads s i seen floor) = (s.value.state ≡ start) × IsPrefix seen (log_at logs i) × IsPrefix floor (log_at logs i)
+Knows start logs writer id (Reads s i seen floor) =
+    (s.value.state ≡ start) × IsPrefix seen (log_at logs i) × IsPrefix floor (log_at logs i)
 Knows start logs writer id (Compares s own i seen floor) =
-    (s.value.state ≡ start) × (id ≡ writer) × (own ≡ logs) × IsPrefix seen (log_at logs i) × IsPrefix floor (log_at logs i)
+    (s.value.state ≡ start) × (id ≡ writer) × (own ≡ logs) × IsPrefix seen (log_at logs i)
+    × IsPrefix floor (log_at logs i)
 Knows start logs writer id Spent = Unit {0}
 
 -- the rule: each word has the value of its history, and no seat knows more than the histories
@@ -117,14 +119,16 @@ with_log i log (Compares s own word seen floor) = Compares s own word seen floor
 with_log i log Spent = Spent
 
 abbrev pub stored_as : table.Step History → table.Me History View → ℕ → table.Me History View → Type 0
-stored_as s before found after = (i : ℕ) (h : History) → s.word ≡ place_of i → s.said ≡ some h → after ≡ (with_log i h.entries before.0, before.1)
+stored_as s before found after =
+    (i : ℕ) (h : History) → s.word ≡ place_of i → s.said ≡ some h → after ≡ (with_log i h.entries before.0, before.1)
 
 -- a load by a watcher
 abbrev pub Sees : ℕ → View → ℕ → View → Type 0
 Sees place (Writes s own) found after = Unit {0}
 Sees place (Marks s own) found after = Unit {0}
 Sees place (Reads s i seen floor) found after =
-    (log : List Entry) × (after ≡ Reads s i log floor) × IsPrefix seen log × IsPrefix floor log × IsRight s.value.state i log found
+    (log : List Entry) × (after ≡ Reads s i log floor) × IsPrefix seen log × IsPrefix floor log
+    × IsRight s.value.state i log found
 Sees place (Compares s own i seen floor) found after = Unit {0}
 Sees place Spent found after = Unit {0}
 
@@ -162,7 +166,8 @@ met v w = v
 
 -- a publisher finds that the watcher knows no more than it does
 abbrev pub Compared : View → View → Type 0
-Compared (Compares s own i seen floor) after = (after ≡ Writes s own) × IsPrefix seen (log_at own i) × IsPrefix floor (log_at own i)
+Compared (Compares s own i seen floor) after =
+    (after ≡ Writes s own) × IsPrefix seen (log_at own i) × IsPrefix floor (log_at own i)
 Compared v after = Unit {0}
 
 abbrev pub compared_as : table.Step History → table.Me History View → ℕ → table.Me History View → Type 0

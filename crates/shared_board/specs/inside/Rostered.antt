@@ -25,5 +25,7 @@ pub record IsRostered (start : State) (w : Witnessed) (rows : List Row) : Type 0
   pub count : processors w.board.state ≡ processors start
 
 abbrev pub witnessed_code : Coded Witnessed
-witnessed_code = code_by (BoardModel × (List Entry × ℕ)) (coded× model_code (coded× (coded_list entries.the_row.coded) coded_ℕ)) (λ w. (w.board, (w.history, w.actors)))
+witnessed_code =
+    code_by (BoardModel × (List Entry × ℕ)) (coded× model_code (coded× (coded_list entries.the_row.coded) coded_ℕ))
+    (λ w. (w.board, (w.history, w.actors)))
     (λ p. record { board = p.0; history = p.1.0; actors = p.1.1 }) (λ _. refl)

@@ -8,4 +8,6 @@ use Rattle.shared_board.specs.Witnessed.{Witnessed}
 use Rattle.shared_board.specs.inside.Rostered.{witnessed_code}
 
 abbrev pub publishing_code : Coded Publishing
-publishing_code = code_by (Witnessed × Logs) (coded× witnessed_code (coded_list log_code)) (λ p. (p.shared, p.logs)) (λ p. record { shared = p.0; logs = p.1 }) (λ _. refl)
+publishing_code =
+    code_by (Witnessed × Logs) (coded× witnessed_code (coded_list log_code)) (λ p. (p.shared, p.logs))
+    (λ p. record { shared = p.0; logs = p.1 }) (λ _. refl)

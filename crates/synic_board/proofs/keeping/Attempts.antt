@@ -31,14 +31,16 @@ use Rattle.synic_board.proofs.keeping.Placements.{page_of, page-long, queue-good
 
 -- MessagePending is set in an occupied slot
 
-marked-page : (n : ℕ) (s : State) (p i : ℕ) → IsWhole n s → p < n → length (with_bit (page_of s p) (pending_place i) 0) ≡ 4096
+marked-page : (n : ℕ) (s : State) (p i : ℕ) → IsWhole n s → p < n
+    → length (with_bit (page_of s p) (pending_place i) 0) ≡ 4096
 marked-page n s p i h below = length-set (page_of s p) (pending_place i) _ ∙ page-long n s p h below
 
 marked-whole : (n : ℕ) (s : State) (p i : ℕ) → IsWhole n s → p < n → IsWhole n (marked s p i).0
 marked-whole n s p i h below = record {
   registers = h.registers;
   own = length-set s.own (2 * p) (with_bit (page_of s p) (pending_place i) 0) ∙ h.own;
-  pages = All-set (λ page. length page ≡ 4096) s.own (2 * p) (with_bit (page_of s p) (pending_place i) 0) (marked-page n s p i h below) h.pages;
+  pages = All-set (λ page. length page ≡ 4096) s.own (2 * p) (with_bit (page_of s p) (pending_place i) 0)
+      (marked-page n s p i h below) h.pages;
   queues = h.queues;
   slots = h.slots;
   ports = h.ports;
@@ -46,16 +48,21 @@ marked-whole n s p i h below = record {
   messages = h.messages;
 }
 
-pub marked-type : (n : ℕ) (s : State) (p i q j : ℕ) → IsWhole n s → p < n → slot_type (page_of (marked s p i).0 q) j ≡ slot_type (page_of s q) j
+pub marked-type : (n : ℕ) (s : State) (p i q j : ℕ) → IsWhole n s → p < n
+    → slot_type (page_of (marked s p i).0 q) j ≡ slot_type (page_of s q) j
 marked-type n s p i q j h below = split (cases_eq q p)
   where
     split : (q ≡ p) ⊎ (q ≡ p → ⊥) → slot_type (page_of (marked s p i).0 q) j ≡ slot_type (page_of s q) j
     split (inl same) =
         ap (λ k. slot_type (page_of (marked s p i).0 k) j) same
-        ∙ ap (λ page. slot_type page j) (get_or-set_same s.own (2 * p) (with_bit (page_of s p) (pending_place i) 0) [] (omega (arith, h.own)))
+        ∙ ap (λ page. slot_type page j)
+        (get_or-set_same s.own (2 * p) (with_bit (page_of s p) (pending_place i) 0) [] (omega (arith, h.own)))
         ∙ slot_type-pending (page_of s p) i j
         ∙ ap (λ k. slot_type (page_of s k) j) (sym same)
-    split (inr ne) = ap (λ page. slot_type page j) (get_or-set_other s.own (2 * p) (2 * q) (with_bit (page_of s p) (pending_place i) 0) [] (λ e. ne (omega (arith, e))))
+    split (inr ne) =
+        ap (λ page. slot_type page j)
+        (get_or-set_other s.own (2 * p) (2 * q) (with_bit (page_of s p) (pending_place i) 0) []
+        (λ e. ne (omega (arith, e))))
 
 marked-ends : (b : Bool) (p i : ℕ) → EndsNone (if b then [] else Pending p i ∷ [])
 marked-ends true p i t = refl
@@ -64,8 +71,13 @@ marked-ends false p i t = refl
 keeps-marked : (n : ℕ) (s : State) (p i : ℕ) → IsIntact n s → p < n → Keeps n s (marked s p i)
 keeps-marked n s p i h below =
     keeps-still n s (marked s p i)
-    (record { count = h.count; whole = marked-whole n s p i h.whole below; empty = λ q j within inside z. h.empty q j within inside (sym (marked-type n s p i q j h.whole below) ∙ z) })
-    (record { queues = refl; slots = refl; next = refl }) (leaves-marked n s p i h.whole.own below) (marked-ends (is_pending (space_of s) p i) p i)
+    (record {
+      count = h.count;
+      whole = marked-whole n s p i h.whole below;
+      empty = λ q j within inside z. h.empty q j within inside (sym (marked-type n s p i q j h.whole below) ∙ z);
+    })
+    (record { queues = refl; slots = refl; next = refl }) (leaves-marked n s p i h.whole.own below)
+    (marked-ends (is_pending (space_of s) p i) p i)
 
 both : (a b : Bool) → (a && b) ≡ true → b ≡ true
 both true b e = e
@@ -76,7 +88,8 @@ unfolding tried
 keeps-tried n s p i h below under =
     either (Keeps n s) (delivers s p && nat_lt 0 (length (queue_of s.queues p i))) _ _
     (λ may. either (Keeps n s) (is_slot_empty s p i) _ _
-    (λ free. let first = keeps-placed n s p i h below under (both (delivers s p) (nat_lt 0 (length (queue_of s.queues p i))) may) (grind (arith, nat_tests)) in
+    (λ free. let first = keeps-placed n s p i h below under
+    (both (delivers s p) (nat_lt 0 (length (queue_of s.queues p i))) may) (grind (arith, nat_tests)) in
     keeps-after n s (placed s p i) (raised (placed s p i).0 p i) first (keeps-raised n (placed s p i).0 p i first.kept))
     (λ _. keeps-marked n s p i h below))
     (λ _. keeps-nothing n s h)
@@ -86,13 +99,17 @@ unfolding tried_below
 keeps-tried_below n s p zero h below bound = keeps-nothing n s h
 keeps-tried_below n s p (suc i) h below bound =
     let first = keeps-tried_below n s p i h below (omega arith) in
-    keeps-after n s (tried_below s p i) (tried (tried_below s p i).0 p i) first (keeps-tried n (tried_below s p i).0 p i first.kept below (omega arith))
+    keeps-after n s (tried_below s p i) (tried (tried_below s p i).0 p i) first
+    (keeps-tried n (tried_below s p i).0 p i first.kept below (omega arith))
 
 -- a message that takes the next ticket joins its queue
-keeps-accepted : (n : ℕ) (s : State) (p i : ℕ) (m : Message) → IsIntact n s → p < n → i < 16 → IsMessage m → ticket_of m ≡ s.next_ticket → Keeps n s (accepted s p i m)
+keeps-accepted : (n : ℕ) (s : State) (p i : ℕ) (m : Message) → IsIntact n s → p < n → i < 16 → IsMessage m
+    → ticket_of m ≡ s.next_ticket → Keeps n s (accepted s p i m)
 keeps-accepted n s p i m h below under good next =
     let q : List Message = queue_of s.queues p i ++ m ∷ [] in
-    let more : All IsMessage q = All-append IsMessage (queue_of s.queues p i) (m ∷ []) (queue-good n s p i h.whole below under) (All-cons IsMessage m [] good (All-nil IsMessage)) in
+    let more : All IsMessage q =
+    All-append IsMessage (queue_of s.queues p i) (m ∷ []) (queue-good n s p i h.whole below under)
+    (All-cons IsMessage m [] good (All-nil IsMessage)) in
     record {
       kept = record {
         count = h.count;
@@ -125,28 +142,39 @@ keeps-accepted n s p i m h below under good next =
     accepted-ends : EndsNone (Accepted p i (ticket_of m) ∷ [])
     accepted-ends t = refl
 
-pub keeps-delivered : (n : ℕ) (s : State) (p i : ℕ) (m : Message) → IsIntact n s → p < n → i < 16 → IsMessage m → ticket_of m ≡ s.next_ticket → Keeps n s (delivered s p i m)
+pub keeps-delivered : (n : ℕ) (s : State) (p i : ℕ) (m : Message) → IsIntact n s → p < n → i < 16 → IsMessage m
+    → ticket_of m ≡ s.next_ticket → Keeps n s (delivered s p i m)
 keeps-delivered n s p i m h below under good next =
     let first = keeps-accepted n s p i m h below under good next in
-    keeps-after n s (accepted s p i m) (tried (accepted s p i m).0 p i) first (keeps-tried n (accepted s p i m).0 p i first.kept below under)
+    keeps-after n s (accepted s p i m) (tried (accepted s p i m).0 p i) first
+    (keeps-tried n (accepted s p i m).0 p i first.kept below under)
 
 -- the messages of a port are withdrawn from a queue
 pub ends-each : (t p i : ℕ) (tickets : List ℕ) → times_ended t (map (λ x. Withdrawn p i x) tickets) ≡ times t tickets
 ends-each t p i [] = refl
 ends-each t p i (x ∷ tickets) =
     let more = ends-each t p i tickets in
-    omega (arith, more, sum_by-cons (λ (k : Notice). cond (is_end_of t k) 1 0) (Withdrawn p i x) (map (λ y. Withdrawn p i y) tickets), sum_by-cons (λ y. one y t) x tickets)
+    omega (
+      arith,
+      more,
+      sum_by-cons (λ (k : Notice). cond (is_end_of t k) 1 0) (Withdrawn p i x)
+          (map (λ y. Withdrawn p i y) tickets),
+      sum_by-cons (λ y. one y t) x tickets,
+    )
 
 parted : (t port : ℕ) (q : List Message) → in_queue t (left_of port q) + times t (withdrawn_of port q) ≡ in_queue t q
 parted t port [] = refl
 parted t port (m ∷ q) = go (is_from_port port m) (parted t port q)
   where
     go : (b : Bool) → in_queue t (left_of port q) + times t (withdrawn_of port q) ≡ in_queue t q →
-        in_queue t (cond (not b) (m ∷ left_of port q) (left_of port q)) + times t (map ticket_of (cond b (m ∷ filter (is_from_port port) q) (filter (is_from_port port) q))) ≡ in_queue t (m ∷ q)
+        in_queue t (cond (not b) (m ∷ left_of port q) (left_of port q)) + times t
+        (map ticket_of (cond b (m ∷ filter (is_from_port port) q) (filter (is_from_port port) q)))
+        ≡ in_queue t (m ∷ q)
     go true more = omega (arith, more, in_queue-cons t m q, in_queue-cons t m (filter (is_from_port port) q))
     go false more = omega (arith, more, in_queue-cons t m q, in_queue-cons t m (left_of port q))
 
-pub keeps-withdrawn : (n : ℕ) (s : State) (p i port : ℕ) → IsIntact n s → p < n → i < 16 → Keeps n s (withdrawn s p i port)
+pub keeps-withdrawn : (n : ℕ) (s : State) (p i port : ℕ) → IsIntact n s → p < n → i < 16
+    → Keeps n s (withdrawn s p i port)
 keeps-withdrawn n s p i port h below under =
     let q : List Message = left_of port (queue_of s.queues p i) in
     record {
@@ -161,7 +189,8 @@ keeps-withdrawn n s p i port h below under =
           ports = h.whole.ports;
           timers = h.whole.timers;
           messages = All-set (All IsMessage) s.queues (source_number p i) q
-              (All-filter (λ m. not (is_from_port port m)) IsMessage (queue_of s.queues p i) (queue-good n s p i h.whole below under)) h.whole.messages;
+              (All-filter (λ m. not (is_from_port port m)) IsMessage (queue_of s.queues p i)
+              (queue-good n s p i h.whole below under)) h.whole.messages;
         };
         empty = h.empty;
       };

@@ -26,7 +26,8 @@ due-on : (n : ℕ) (s : State) (t : ℕ × ℕ) → IsIntact n s → is_due_in (
 due-on n s t h due = let there = due-there (bank_of s) t s.moment due in omega (arith, there, h.whole.timers)
 
 expiry-ends : (t : ℕ × ℕ) (signal : Option ℕ) (skipped : ℕ) → EndsNone (expiry_notices t signal skipped)
-expiry-ends t signal skipped ticket = omega (arith, ended-append ticket (expired_notices t signal) (skipped_notices t skipped), expired signal, skips)
+expiry-ends t signal skipped ticket =
+    omega (arith, ended-append ticket (expired_notices t signal) (skipped_notices t skipped), expired signal, skips)
   where
     expired : (o : Option ℕ) → times_ended ticket (expired_notices t o) ≡ 0
     expired None = refl
@@ -41,23 +42,31 @@ Names (Direct v) = Unit {0}
 Names (Posted i) = i < 16
 
 pub mode-names : (config : ℕ) → Names (mode_of config)
-mode-names config = either Names (is_direct config) (Direct (vector_of config)) (Posted (sint_of config)) (λ _. tt) (λ _. omega arith)
+mode-names config =
+    either Names (is_direct config) (Direct (vector_of config)) (Posted (sint_of config)) (λ _. tt) (λ _. omega arith)
 
-keeps-emitted : (n : ℕ) (s : State) (t : ℕ × ℕ) (mode : Mode) (d : ℕ) → IsIntact n s → t.0 < n → Names mode → Keeps n s (delivery_by s t mode d)
+keeps-emitted : (n : ℕ) (s : State) (t : ℕ × ℕ) (mode : Mode) (d : ℕ) → IsIntact n s → t.0 < n → Names mode
+    → Keeps n s (delivery_by s t mode d)
 keeps-emitted n s t (Direct v) d h below names = keeps-requested n s t.0 v h
-keeps-emitted n s t (Posted i) d h below names = keeps-delivered n s t.0 i (FromTimer s.next_ticket t d) h below names ((λ e. omega (arith, e)), omega arith, tt) refl
+keeps-emitted n s t (Posted i) d h below names =
+    keeps-delivered n s t.0 i (FromTimer s.next_ticket t d) h below names
+    ((λ e. omega (arith, e)), omega arith, tt) refl
 
-keeps-signal : (n : ℕ) (s : State) (t : ℕ × ℕ) (mode : Mode) (o : Option ℕ) → IsIntact n s → t.0 < n → Names mode → Keeps n s (signalled_by s t mode o)
+keeps-signal : (n : ℕ) (s : State) (t : ℕ × ℕ) (mode : Mode) (o : Option ℕ) → IsIntact n s → t.0 < n → Names mode
+    → Keeps n s (signalled_by s t mode o)
 keeps-signal n s t mode None h below names = keeps-nothing n s h
 keeps-signal n s t mode (Some d) h below names = keeps-emitted n s t mode d h below names
 
-keeps-fired : (n : ℕ) (s : State) (t : ℕ × ℕ) (mode : Mode) → IsIntact n s → number_of t < 4 * n → Names mode → Keeps n s (fired s t mode)
+keeps-fired : (n : ℕ) (s : State) (t : ℕ × ℕ) (mode : Mode) → IsIntact n s → number_of t < 4 * n → Names mode
+    → Keeps n s (fired s t mode)
 keeps-fired n s t mode h low names =
     let now : State = expired_state s t in
     let emitted = expiry_notices t (expiry_at s t).signal (expiry_at s t).skipped in
     let first = keeps-still n s (now, emitted) (kept-timer n s t ((after_expiry (timer_in (bank_of s) t) s.moment).0) h)
-    (record { queues = refl; slots = refl; next = refl }) (leaves-same n s now refl refl) (expiry-ends t (expiry_at s t).signal (expiry_at s t).skipped) in
-    keeps-after n s (now, emitted) (signalled_by now t mode (expiry_at s t).signal) first (keeps-signal n now t mode (expiry_at s t).signal first.kept (omega (arith, low)) names)
+    (record { queues = refl; slots = refl; next = refl }) (leaves-same n s now refl refl)
+    (expiry-ends t (expiry_at s t).signal (expiry_at s t).skipped) in
+    keeps-after n s (now, emitted) (signalled_by now t mode (expiry_at s t).signal) first
+    (keeps-signal n now t mode (expiry_at s t).signal first.kept (omega (arith, low)) names)
 
 first-of : (a b : Bool) → (a && b) ≡ true → a ≡ true
 first-of true b e = refl
@@ -67,28 +76,37 @@ pub keeps-attempted : (n : ℕ) (s : State) (t : ℕ × ℕ) → IsIntact n s �
 unfolding attempted
 keeps-attempted n s t h =
     either (Keeps n s) (is_ready s t) _ _
-    (λ ready. keeps-fired n s t (mode_at s t) h (due-on n s t h (first-of (is_due_in (bank_of s) t s.moment) (is_ready_for s t (mode_at s t)) ready)) (mode-names (timer_in (bank_of s) t).config))
+    (λ ready. keeps-fired n s t (mode_at s t) h
+    (due-on n s t h (first-of (is_due_in (bank_of s) t s.moment) (is_ready_for s t (mode_at s t)) ready))
+    (mode-names (timer_in (bank_of s) t).config))
     (λ _. keeps-nothing n s h)
 
-keeps-attempted_until : (n few : ℕ) (s : State) (ts : List (ℕ × ℕ)) → IsIntact n s → Keeps n s (attempted_until few s ts)
+keeps-attempted_until : (n few : ℕ) (s : State) (ts : List (ℕ × ℕ)) → IsIntact n s
+    → Keeps n s (attempted_until few s ts)
 unfolding attempted_until
 keeps-attempted_until n zero s ts h = keeps-nothing n s h
 keeps-attempted_until n (suc few) s [] h = keeps-nothing n s h
 keeps-attempted_until n (suc few) s (t ∷ ts) h =
     let first = keeps-attempted n s t h in
     let left = if is_ready s t then few else suc few in
-    keeps-after n s (attempted s t) (attempted_until left (attempted s t).0 ts) first (keeps-attempted_until n left (attempted s t).0 ts first.kept)
+    keeps-after n s (attempted s t) (attempted_until left (attempted s t).0 ts) first
+    (keeps-attempted_until n left (attempted s t).0 ts first.kept)
 
-keeps-written : (n : ℕ) (s : State) (t : ℕ × ℕ) (x : Timer) → number_of t < 4 * n → IsIntact n s → KeepsOutcome n s (written_timer s (with_timer (bank_of s) t x) t)
+keeps-written : (n : ℕ) (s : State) (t : ℕ × ℕ) (x : Timer) → number_of t < 4 * n → IsIntact n s
+    → KeepsOutcome n s (written_timer s (with_timer (bank_of s) t x) t)
 keeps-written n s t x low h =
     let now : State = with_bank s (with_timer (bank_of s) t x) in
-    let first = keeps-still n s (now, []) (kept-timer n s t x h) (record { queues = refl; slots = refl; next = refl }) (leaves-same n s now refl refl) (λ _. refl) in
+    let first = keeps-still n s (now, []) (kept-timer n s t x h) (record { queues = refl; slots = refl; next = refl })
+    (leaves-same n s now refl refl) (λ _. refl) in
     keeps-after n s (now, []) (attempted now t) first (keeps-attempted n now t first.kept)
 
-pub keeps-written_config : (n : ℕ) (s : State) (t : ℕ × ℕ) (value : ℕ) → number_of t < 4 * n → IsIntact n s → KeepsOutcome n s (written_timer s (with_config (bank_of s) t value s.moment) t)
-keeps-written_config n s t value low h = keeps-written n s t (after_config (timer_in (bank_of s) t) value s.moment) low h
+pub keeps-written_config : (n : ℕ) (s : State) (t : ℕ × ℕ) (value : ℕ) → number_of t < 4 * n → IsIntact n s
+    → KeepsOutcome n s (written_timer s (with_config (bank_of s) t value s.moment) t)
+keeps-written_config n s t value low h =
+    keeps-written n s t (after_config (timer_in (bank_of s) t) value s.moment) low h
 
-pub keeps-written_count : (n : ℕ) (s : State) (t : ℕ × ℕ) (value : ℕ) → number_of t < 4 * n → IsIntact n s → KeepsOutcome n s (written_timer s (with_count (bank_of s) t value s.moment) t)
+pub keeps-written_count : (n : ℕ) (s : State) (t : ℕ × ℕ) (value : ℕ) → number_of t < 4 * n → IsIntact n s
+    → KeepsOutcome n s (written_timer s (with_count (bank_of s) t value s.moment) t)
 keeps-written_count n s t value low h = keeps-written n s t (after_count (timer_in (bank_of s) t) value s.moment) low h
 
 pub keeps-ticked : (n : ℕ) (s : State) (moment : ℕ) → IsIntact n s → KeepsOutcome n s (ticked s moment)
@@ -99,5 +117,7 @@ keeps-ticked n s moment h =
     (λ _. keeps-unchanged n s (Refused ClockBack) h)
     (λ _. either (KeepsOutcome n s) (moment == s.moment) _ _
     (λ _. keeps-unchanged n s Done h)
-    (λ _. let first = keeps-still n s (now, []) (kept-moment n s moment h) (record { queues = refl; slots = refl; next = refl }) (leaves-same n s now refl refl) (λ _. refl) in
-    keeps-after n s (now, []) (attempted_until most_expiries now ts) first (keeps-attempted_until n most_expiries now ts first.kept)))
+    (λ _. let first = keeps-still n s (now, []) (kept-moment n s moment h)
+    (record { queues = refl; slots = refl; next = refl }) (leaves-same n s now refl refl) (λ _. refl) in
+    keeps-after n s (now, []) (attempted_until most_expiries now ts) first
+    (keeps-attempted_until n most_expiries now ts first.kept)))

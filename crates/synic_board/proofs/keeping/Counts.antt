@@ -33,23 +33,33 @@ in_slots t slots = sum_by (in_slot t) slots
 
 times-flat : (t : ℕ) (qs : Queues) → times t (flat_map (map ticket_of) qs) ≡ in_queues t qs
 times-flat t [] = refl
-times-flat t (q ∷ qs) = ap (times t) (flat_map-cons (map ticket_of) q qs) ∙ sum_by-append (λ x. one x t) (map ticket_of q) (flat_map (map ticket_of) qs)
+times-flat t (q ∷ qs) =
+    ap (times t) (flat_map-cons (map ticket_of) q qs)
+    ∙ sum_by-append (λ x. one x t) (map ticket_of q) (flat_map (map ticket_of) qs)
     ∙ ap (λ n. in_queue t q + n) (times-flat t qs) ∙ sym (sum_by-cons (in_queue t) q qs)
 
 times-slots : (t : ℕ) (os : List (Option ℕ)) → times t (filter_map (λ x. x) os) ≡ in_slots t os
 times-slots t [] = refl
-times-slots t (None ∷ os) = let a = times-slots t os in let b = sum_by-cons (in_slot t) None os in let c : in_slots t (None ∷ os) ≡ in_slots t os = omega (arith, b) in a ∙ sym c
-times-slots t (Some x ∷ os) = sum_by-cons (λ y. one y t) x (filter_map (λ y. y) os) ∙ ap (λ n. one x t + n) (times-slots t os) ∙ sym (sum_by-cons (in_slot t) (Some x) os)
+times-slots t (None ∷ os) =
+    let a =
+    times-slots t os in let b =
+    sum_by-cons (in_slot t) None os in let c : in_slots t (None ∷ os) ≡ in_slots t os = omega (arith, b) in a ∙ sym c
+times-slots t (Some x ∷ os) =
+    sum_by-cons (λ y. one y t) x (filter_map (λ y. y) os) ∙ ap (λ n. one x t + n) (times-slots t os)
+    ∙ sym (sum_by-cons (in_slot t) (Some x) os)
 
 pub times-locations : (t : ℕ) (s : State) → times t (locations s) ≡ in_queues t s.queues + in_slots t s.slots
 unfolding locations
-times-locations t s = sum_by-append (λ x. one x t) (flat_map (map ticket_of) s.queues) (filter_map (λ x. x) s.slots) ∙ (λ i. times-flat t s.queues i + times-slots t s.slots i)
+times-locations t s =
+    sum_by-append (λ x. one x t) (flat_map (map ticket_of) s.queues) (filter_map (λ x. x) s.slots)
+    ∙ (λ i. times-flat t s.queues i + times-slots t s.slots i)
 
 -- one ticket
 pub times-one : (x t : ℕ) → times t (x ∷ []) ≡ one x t
 times-one x t = zero-add (one x t)
 
-pub in_queue-push : (t : ℕ) (q : List Message) (m : Message) → in_queue t (q ++ m ∷ []) ≡ in_queue t q + one (ticket_of m) t
+pub in_queue-push : (t : ℕ) (q : List Message) (m : Message)
+    → in_queue t (q ++ m ∷ []) ≡ in_queue t q + one (ticket_of m) t
 in_queue-push t q m = ap (times t) (map_push ticket_of q m) ∙ sum_by_push (λ y. one y t) (map ticket_of q) (ticket_of m)
 
 pub in_queue-cons : (t : ℕ) (m : Message) (q : List Message) → in_queue t (m ∷ q) ≡ one (ticket_of m) t + in_queue t q
@@ -63,10 +73,12 @@ ended-append t xs ys = sum_by-append (λ n. cond (is_end_of t n) 1 0) xs ys
 abbrev bit : Bool → ℕ
 bit b = cond b 1 0
 
-pub given-after : (t : ℕ) (a b c : State) → a.next_ticket ≤ b.next_ticket → b.next_ticket ≤ c.next_ticket → given t a c ≡ given t a b + given t b c
+pub given-after : (t : ℕ) (a b c : State) → a.next_ticket ≤ b.next_ticket → b.next_ticket ≤ c.next_ticket
+    → given t a c ≡ given t a b + given t b c
 given-after t a b c h k = sums a.next_ticket b.next_ticket c.next_ticket h k
   where
-    sums : (x y z : ℕ) → x ≤ y → y ≤ z → bit (nat_le x t && nat_lt t z) ≡ bit (nat_le x t && nat_lt t y) + bit (nat_le y t && nat_lt t z)
+    sums : (x y z : ℕ) → x ≤ y → y ≤ z
+        → bit (nat_le x t && nat_lt t z) ≡ bit (nat_le x t && nat_lt t y) + bit (nat_le y t && nat_lt t z)
     sums x y z h k = grind (arith, nat_tests)
 
 pub given-none : (t : ℕ) (a b : State) → b.next_ticket ≡ a.next_ticket → given t a b ≡ 0

@@ -34,18 +34,26 @@ use Rattle.synic_board.proofs.keeping.Attempts.{ends-each}
 use Rattle.synic_board.proofs.keeping.Stores.{without-whole, without-slot}
 
 -- the suspension flag
-pub keeps-suspension : (n : ℕ) (s : State) (p : ℕ) (mark : Bool) → IsIntact n s → p < n → Keeps n s (with_suspension s p mark, [])
+pub keeps-suspension : (n : ℕ) (s : State) (p : ℕ) (mark : Bool) → IsIntact n s → p < n
+    → Keeps n s (with_suspension s p mark, [])
 keeps-suspension n s p mark h below =
     let apic : Apic = apic_with_suspension (apic_of s p) mark in
     let marked : State = with_apic s p apic in
     keeps-still n s (with_suspension s p mark, [])
     (kept-bank n marked (bank_with_suspension (bank_of s) p mark) h.whole.timers (kept-apic n s p apic h))
-    (record { queues = refl; slots = refl; next = refl }) (leaves-same n s (with_suspension s p mark) refl refl) (λ t. refl)
+    (record { queues = refl; slots = refl; next = refl }) (leaves-same n s (with_suspension s p mark) refl refl)
+    (λ t. refl)
 
 -- a slot loses its ticket, which is withdrawn
-keeps-freed : (n : ℕ) (s : State) (p i x : ℕ) → IsIntact n s → p < n → i < 16 → slot_of s p i ≡ Some x → KeepsMessages n s (withdrawn_ticket s p i x)
+keeps-freed : (n : ℕ) (s : State) (p i x : ℕ) → IsIntact n s → p < n → i < 16 → slot_of s p i ≡ Some x
+    → KeepsMessages n s (withdrawn_ticket s p i x)
 keeps-freed n s p i x h below under is = record {
-  kept = record { count = h.count; whole = without-whole n s p i h.whole; empty = λ q j within inside z. without-slot n s p i q j h.whole below under inside (λ _. h.empty q j within inside z) };
+  kept = record {
+    count = h.count;
+    whole = without-whole n s p i h.whole;
+    empty =
+        λ q j within inside z. without-slot n s p i q j h.whole below under inside (λ _. h.empty q j within inside z);
+  };
   tickets_monotone = omega arith;
   conserves = λ t. omega (
     arith,
@@ -101,17 +109,25 @@ record Empties (n p i : ℕ) (s : State) (e : Effect) : Type 0 where
   messages : KeepsMessages n s e
   free : (j : ℕ) → j < i → slot_of e.0 p j ≡ None
 
-freed : (n : ℕ) (s : State) (p i j : ℕ) → IsIntact n s → p < n → i < 16 → j ≤ i → (j < i → slot_of s p j ≡ None) → slot_of (slot_emptied s p i).0 p j ≡ None
+freed : (n : ℕ) (s : State) (p i j : ℕ) → IsIntact n s → p < n → i < 16 → j ≤ i → (j < i → slot_of s p j ≡ None)
+    → slot_of (slot_emptied s p i).0 p j ≡ None
 freed n s p i j h below under le free = held (slot_of s p i) refl (cases_eq j i)
   where
-    held : (o : Option ℕ) → slot_of s p i ≡ o → (j ≡ i) ⊎ (j ≢ i) → slot_of (option_map_or (withdrawn_ticket s p i) o (nothing s)).0 p j ≡ None
+    held : (o : Option ℕ) → slot_of s p i ≡ o → (j ≡ i) ⊎ (j ≢ i)
+        → slot_of (option_map_or (withdrawn_ticket s p i) o (nothing s)).0 p j ≡ None
     held None is (inl same) = ap (slot_of s p) same ∙ is
     held None is (inr ne) = free (omega (arith, le, ne))
-    held (Some x) is at = without-slot n s p i p j h.whole below under (omega (arith, le, under)) (λ apart. free (omega (arith, le, apart refl)))
+    held (Some x) is at =
+        without-slot n s p i p j h.whole below under (omega (arith, le, under))
+        (λ apart. free (omega (arith, le, apart refl)))
 
 empties-below : (n : ℕ) (s : State) (p i : ℕ) → IsIntact n s → p < n → i ≤ 16 → Empties n p i s (emptied_below s p i)
 unfolding emptied_below
-empties-below n s p zero h below bound = record { messages = messages-kept n s (nothing s) (keeps-nothing n s h); free = λ j less. absurd (omega (arith, less)) }
+empties-below n s p zero h below bound =
+    record {
+      messages = messages-kept n s (nothing s) (keeps-nothing n s h);
+      free = λ j less. absurd (omega (arith, less));
+    }
 empties-below n s p (suc i) h below bound =
     let e : Effect = emptied_below s p i in
     let slot : Effect = slot_emptied e.0 p i in
@@ -119,23 +135,29 @@ empties-below n s p (suc i) h below bound =
     let second = keeps-slot n e.0 p i first.messages.kept below (omega (arith, bound)) in
     let third = keeps-queue n slot.0 p i second.kept below (omega (arith, bound)) in
     record {
-      messages = messages-after n s e (source_emptied e.0 p i) first.messages (messages-after n e.0 slot (queue_emptied slot.0 p i) second third);
-      free = λ j less. freed n e.0 p i j first.messages.kept below (omega (arith, bound)) (omega (arith, less)) (first.free j);
+      messages = messages-after n s e (source_emptied e.0 p i) first.messages
+          (messages-after n e.0 slot (queue_emptied slot.0 p i) second third);
+      free = λ j less. freed n e.0 p i j first.messages.kept below (omega (arith, bound)) (omega (arith, less))
+          (first.free j);
     }
 
 -- the message page of another processor
 page-other : (s : State) (p q : ℕ) → q ≢ p → own_page (space_of (cleared s p)) q Sim ≡ own_page (space_of s) q Sim
-page-other s p q ne = get_or-set_other (set s.own (2 * p) zero_page) (2 * p + 1) (2 * q) zero_page [] (λ e. omega (arith, e))
+page-other s p q ne =
+    get_or-set_other (set s.own (2 * p) zero_page) (2 * p + 1) (2 * q) zero_page [] (λ e. omega (arith, e))
     ∙ get_or-set_other s.own (2 * p) (2 * q) zero_page [] (λ e. ne (omega (arith, e)))
 
 -- the rest is as in a newly opened board
-kept-cleared : (n : ℕ) (s : State) (p : ℕ) → IsIntact n s → p < n → ((j : ℕ) → j < 16 → slot_of s p j ≡ None) → IsIntact n (cleared s p)
+kept-cleared : (n : ℕ) (s : State) (p : ℕ) → IsIntact n s → p < n → ((j : ℕ) → j < 16 → slot_of s p j ≡ None)
+    → IsIntact n (cleared s p)
 kept-cleared n s p h below free = record {
   count = length-set s.apics p empty_apic ∙ h.count;
   whole = record {
     registers = length-set s.regs p reset_regs ∙ h.whole.registers;
-    own = length-set (set s.own (2 * p) zero_page) (2 * p + 1) zero_page ∙ length-set s.own (2 * p) zero_page ∙ h.whole.own;
-    pages = All-set (λ x. length x ≡ 4096) (set s.own (2 * p) zero_page) (2 * p + 1) zero_page long (All-set (λ x. length x ≡ 4096) s.own (2 * p) zero_page long h.whole.pages);
+    own = length-set (set s.own (2 * p) zero_page) (2 * p + 1) zero_page ∙ length-set s.own (2 * p) zero_page
+        ∙ h.whole.own;
+    pages = All-set (λ x. length x ≡ 4096) (set s.own (2 * p) zero_page) (2 * p + 1) zero_page long
+        (All-set (λ x. length x ≡ 4096) s.own (2 * p) zero_page long h.whole.pages);
     queues = h.whole.queues;
     slots = h.whole.slots;
     ports = h.whole.ports;
@@ -148,9 +170,11 @@ kept-cleared n s p h below free = record {
     long : length zero_page ≡ 4096
     long = length-replicate {A = ℕ} 4096 0
 
-    by : (q j : ℕ) → q < n → j < 16 → slot_type (own_page (space_of (cleared s p)) q Sim) j ≡ 0 → (q ≡ p) ⊎ (q ≢ p) → slot_of s q j ≡ None
+    by : (q j : ℕ) → q < n → j < 16 → slot_type (own_page (space_of (cleared s p)) q Sim) j ≡ 0 → (q ≡ p) ⊎ (q ≢ p)
+        → slot_of s q j ≡ None
     by q j within inside z (inl same) = ap (λ k. slot_of s k j) same ∙ free j inside
-    by q j within inside z (inr ne) = h.empty q j within inside (sym (ap (λ x. slot_type x j) (page-other s p q ne)) ∙ z)
+    by q j within inside z (inr ne) =
+        h.empty q j within inside (sym (ap (λ x. slot_type x j) (page-other s p q ne)) ∙ z)
 
 pub keeps-reset : (n : ℕ) (s : State) (p : ℕ) → IsIntact n s → p < n → KeepsMessagesOf n s (reset s p)
 keeps-reset n s p h below =
@@ -172,7 +196,13 @@ left-slot s p i q under ne = held (slot_of s p i)
   where
     held : (o : Option ℕ) → IsLeft s (option_map_or (withdrawn_ticket s p i) o (nothing s)).0 q
     held None = record { page = refl; slots = λ j _. refl }
-    held (Some x) = record { page = refl; slots = λ j inside. get_or-set_other s.slots (source_number p i) (source_number q j) None None (λ e. ne (omega (arith, e, inside, under))) }
+    held (Some x) =
+        record {
+          page = refl;
+          slots = λ j inside.
+              get_or-set_other s.slots (source_number p i) (source_number q j) None None
+              (λ e. ne (omega (arith, e, inside, under)));
+        }
 
 left-below : (s : State) (p i q : ℕ) → i ≤ 16 → q ≢ p → IsLeft s (emptied_below s p i).0 q
 unfolding emptied_below

@@ -45,15 +45,20 @@ mute s e same marks timers = record {
 }
 
 -- an APIC with the same suspension flag
-marked-same : (s : State) (p : ℕ) (a : Apic) → a.suspended ≡ (apic_of s p).suspended → (q : ℕ) → (apic_of (with_apic s p a) q).suspended ≡ (apic_of s q).suspended
+marked-same : (s : State) (p : ℕ) (a : Apic) → a.suspended ≡ (apic_of s p).suspended → (q : ℕ)
+    → (apic_of (with_apic s p a) q).suspended ≡ (apic_of s q).suspended
 marked-same s p a is q = by (cases_eq q p) (cases_lt p (processors s))
   where
-    by : (q ≡ p) ⊎ (q ≢ p) → (p < processors s) ⊎ (processors s ≤ p) → (apic_of (with_apic s p a) q).suspended ≡ (apic_of s q).suspended
+    by : (q ≡ p) ⊎ (q ≢ p) → (p < processors s) ⊎ (processors s ≤ p)
+        → (apic_of (with_apic s p a) q).suspended ≡ (apic_of s q).suspended
     by (inl here) (inl on) = ap (λ i. (get_or (set s.apics p a) i empty_apic).suspended) here
-        ∙ ap (λ (x : Apic). x.suspended) (get_or-set_same s.apics p a empty_apic on) ∙ is ∙ ap (λ i. (apic_of s i).suspended) (sym here)
+        ∙ ap (λ (x : Apic). x.suspended) (get_or-set_same s.apics p a empty_apic on) ∙ is
+        ∙ ap (λ i. (apic_of s i).suspended) (sym here)
     by (inl here) (inr past) =
         ap (λ i. (get_or (set s.apics p a) i empty_apic).suspended) here
-        ∙ ap (λ (x : Apic). x.suspended) (get_or_past (set s.apics p a) p empty_apic (let l = length-set s.apics p a in omega (arith, l, past)) ∙ sym (get_or_past s.apics p empty_apic past))
+        ∙ ap (λ (x : Apic). x.suspended)
+        (get_or_past (set s.apics p a) p empty_apic (let l = length-set s.apics p a in omega (arith, l, past))
+        ∙ sym (get_or_past s.apics p empty_apic past))
         ∙ ap (λ i. (apic_of s i).suspended) (sym here)
     by (inr away) on = ap (λ (x : Apic). x.suspended) (get_or-set_other s.apics p q a empty_apic away)
 
@@ -63,17 +68,34 @@ apic-same s p a is = record { many = length-set s.apics p a; marks = refl; apics
 left : OfEffects Leaves
 left = record {
   stays = λ s. mute s (nothing s) refl refl refl;
-  joins = λ s e f a b. record { many = b.many ∙ a.many; marks = b.marks ∙ a.marks; apics = λ p. b.apics p ∙ a.apics p; timers = b.timers ∙ a.timers };
-  requests = λ s p v _. record { many = length-set s.apics p (request (apic_of s p) v); marks = refl; apics = marked-same s p (request (apic_of s p) v) refl; timers = refl };
+  joins = λ s e f a b. record {
+    many = b.many ∙ a.many;
+    marks = b.marks ∙ a.marks;
+    apics = λ p. b.apics p ∙ a.apics p;
+    timers = b.timers ∙ a.timers;
+  };
+  requests = λ s p v _. record {
+    many = length-set s.apics p (request (apic_of s p) v);
+    marks = refl;
+    apics = marked-same s p (request (apic_of s p) v) refl;
+    timers = refl;
+  };
   accepts = λ s p i m. mute s _ refl refl refl;
-  locations = λ s p i m rest _ _. either (λ ns. Leaves s (placed_state s p i m rest, Placed p i (ticket_of m) ∷ ns)) (nat_lt 0 (length rest)) _ _
+  locations = λ s p i m rest _ _.
+      either (λ ns. Leaves s (placed_state s p i m rest, Placed p i (ticket_of m) ∷ ns)) (nat_lt 0 (length rest)) _ _
       (λ _. mute s _ refl refl refl) (λ _. mute s _ refl refl refl);
-  marks = λ s p i. either (λ ns. Leaves s (with_space s (after_pending (space_of s) p i), ns)) (is_pending (space_of s) p i) _ _ (λ _. mute s _ refl refl refl) (λ _. mute s _ refl refl refl);
+  marks = λ s p i. either (λ ns. Leaves s (with_space s (after_pending (space_of s) p i), ns))
+      (is_pending (space_of s) p i) _ _ (λ _. mute s _ refl refl refl) (λ _. mute s _ refl refl refl);
   consumes = λ s p i t _. mute s _ refl refl refl;
   withdraws = λ s p i port. mute s _ refl refl refl;
   frees = λ s p i t. mute s _ refl refl refl;
   empties = λ s p i. mute s _ refl refl refl;
-  expires = λ s t due. record { many = refl; marks = refl; apics = λ p. refl; timers = length-set s.timers (number_of t) (after_expiry (timer_in (bank_of s) t) s.moment).0 };
+  expires = λ s t due. record {
+    many = refl;
+    marks = refl;
+    apics = λ p. refl;
+    timers = length-set s.timers (number_of t) (after_expiry (timer_in (bank_of s) t) s.moment).0;
+  };
 }
 
 -- an effect from a state with the same processors and flags
@@ -83,14 +105,16 @@ from s t e apics marks timers h a = record {
   bound = omega (arith, a.bound, many);
   timers = h.timers ∙ timers ∙ a.timers ∙ ap (λ n. 4 * n) (sym many);
   marks = ap (λ (l : List Bool). length l) (h.marks ∙ marks) ∙ a.marks ∙ sym many;
-  suspended = λ p. ap (λ (l : List Bool). get_or l p false) (h.marks ∙ marks) ∙ a.suspended p ∙ sym (h.apics p ∙ ap (λ (l : List Apic). (get_or l p empty_apic).suspended) apics);
+  suspended = λ p. ap (λ (l : List Bool). get_or l p false) (h.marks ∙ marks) ∙ a.suspended p
+      ∙ sym (h.apics p ∙ ap (λ (l : List Apic). (get_or l p empty_apic).suspended) apics);
 }
   where
     many : processors e.0 ≡ processors s
     many = h.many ∙ ap (λ (l : List Apic). length l) apics
 
 -- a change of neither local APICs nor timers
-pub settled-same : (s now : State) → now.apics ≡ s.apics → now.suspended ≡ s.suspended → now.timers ≡ s.timers → HasPairedTimers s → HasPairedTimers now
+pub settled-same : (s now : State) → now.apics ≡ s.apics → now.suspended ≡ s.suspended → now.timers ≡ s.timers
+    → HasPairedTimers s → HasPairedTimers now
 settled-same s now apics marks timers a = from s s (now, []) refl refl refl (mute s (now, []) apics marks timers) a
 
 -- both flags of a processor are written
@@ -100,23 +124,33 @@ written s t p x apics marks timers on a = record {
   bound = omega (arith, a.bound, many);
   timers = timers ∙ a.timers ∙ ap (λ n. 4 * n) (sym many);
   marks = ap (λ (l : List Bool). length l) marks ∙ length-set s.suspended p x.suspended ∙ a.marks ∙ sym many;
-  suspended = λ q. ap (λ (l : List Bool). get_or l q false) marks ∙ by q (cases_eq q p) ∙ sym (ap (λ (l : List Apic). (get_or l q empty_apic).suspended) apics);
+  suspended = λ q. ap (λ (l : List Bool). get_or l q false) marks ∙ by q (cases_eq q p)
+      ∙ sym (ap (λ (l : List Apic). (get_or l q empty_apic).suspended) apics);
 }
   where
     many : processors t ≡ processors s
     many = ap (λ (l : List Apic). length l) apics ∙ length-set s.apics p x
 
-    by : (q : ℕ) → (q ≡ p) ⊎ (q ≢ p) → get_or (set s.suspended p x.suspended) q false ≡ (get_or (set s.apics p x) q empty_apic).suspended
+    by : (q : ℕ) → (q ≡ p) ⊎ (q ≢ p)
+        → get_or (set s.suspended p x.suspended) q false ≡ (get_or (set s.apics p x) q empty_apic).suspended
     by q (inl here) =
-        ap (λ i. get_or (set s.suspended p x.suspended) i false) here ∙ get_or-set_same s.suspended p x.suspended false (let m = a.marks in omega (arith, m, on))
-        ∙ sym (ap (λ i. (get_or (set s.apics p x) i empty_apic).suspended) here ∙ ap (λ (y : Apic). y.suspended) (get_or-set_same s.apics p x empty_apic on))
-    by q (inr away) = get_or-set_other s.suspended p q x.suspended false away ∙ a.suspended q ∙ sym (ap (λ (y : Apic). y.suspended) (get_or-set_other s.apics p q x empty_apic away))
+        ap (λ i. get_or (set s.suspended p x.suspended) i false) here
+        ∙ get_or-set_same s.suspended p x.suspended false (let m = a.marks in omega (arith, m, on))
+        ∙ sym (ap (λ i. (get_or (set s.apics p x) i empty_apic).suspended) here
+        ∙ ap (λ (y : Apic). y.suspended) (get_or-set_same s.apics p x empty_apic on))
+    by q (inr away) =
+        get_or-set_other s.suspended p q x.suspended false away ∙ a.suspended q
+        ∙ sym (ap (λ (y : Apic). y.suspended) (get_or-set_other s.apics p q x empty_apic away))
 
-pub settled-processor : (s : State) (p : ℕ) (x : Apic) → p < processors s → HasPairedTimers s → HasPairedTimers (with_processor s p x)
+pub settled-processor : (s : State) (p : ℕ) (x : Apic) → p < processors s → HasPairedTimers s
+    → HasPairedTimers (with_processor s p x)
 settled-processor s p x on a = written s (with_processor s p x) p x refl refl refl on a
 
 pub settled-timer : (s : State) (t : ℕ × ℕ) (x : Timer) → HasPairedTimers s → HasPairedTimers (with_saved_timer s t x)
-settled-timer s t x a = let now : State = with_saved_timer s t x in from s now (now, []) refl refl (length-set s.timers (number_of t) x) (mute now (now, []) refl refl refl) a
+settled-timer s t x a =
+    let now : State =
+    with_saved_timer s t x in
+    from s now (now, []) refl refl (length-set s.timers (number_of t) x) (mute now (now, []) refl refl refl) a
 
 -- the timers of a processor are reset
 many-cleared : (s : State) (p : ℕ) → length (cleared s p).timers ≡ length s.timers
@@ -134,13 +168,20 @@ settled-step s event = throughout Leaves Keeps left (record {
   acts = λ s event reply moment ports regs e _ h a. from s _ e refl refl refl h a;
   eases = λ s event reply p x _ _ is a. from s s (with_apic s p x, []) refl refl refl (apic-same s p x is) a;
   stores = λ s address bytes e h a. from s _ e refl refl refl h a;
-  configures = λ s p i number value e on is h a. from s _ e refl refl (length-set s.timers (number_of (p, i)) (after_config (timer_in (bank_of s) (p, i)) value s.moment)) h a;
-  counts = λ s p i number value e on is h a. from s _ e refl refl (length-set s.timers (number_of (p, i)) (after_count (timer_in (bank_of s) (p, i)) value s.moment)) h a;
+  configures =
+      λ s p i number value e on is h a.
+      from s _ e refl refl (length-set s.timers (number_of (p, i))
+      (after_config (timer_in (bank_of s) (p, i)) value s.moment)) h a;
+  counts = λ s p i number value e on is h a.
+      from s _ e refl refl (length-set s.timers (number_of (p, i))
+      (after_count (timer_in (bank_of s) (p, i)) value s.moment)) h a;
   repeats = λ s port flag p i f _ _ a. settled-same s (with_flag s p i f) refl refl refl a;
-  signals = λ s port flag p i f _ _ h a. let lit : State = with_flag s p i f in from s s (after (flagged s p i f) (raised lit p i)) refl refl refl
+  signals = λ s port flag p i f _ _ h a. let lit : State = with_flag s p i f in
+      from s s (after (flagged s p i f) (raised lit p i)) refl refl refl
       (left.joins s (flagged s p i f) (raised lit p i) (mute s _ refl refl refl) h) a;
   pauses = λ s event p mark _ on a. written s (with_suspension s p mark) p _ refl refl refl on a;
-  resets = λ s p on h a. let e : Effect = emptied s p in let n = h.many in written e.0 (cleared e.0 p) p empty_apic refl refl (many-cleared e.0 p) (omega (arith, n, on))
+  resets = λ s p on h a. let e : Effect = emptied s p in let n = h.many in
+      written e.0 (cleared e.0 p) p empty_apic refl refl (many-cleared e.0 p) (omega (arith, n, on))
       (from s s e refl refl refl h a);
 }) s event
 
@@ -150,7 +191,8 @@ settled-run s [] a = a
 settled-run s (event ∷ events) a = settled-run (step s event).0 events (settled-step s event a)
 
 -- an event that is performed
-pub settled : (s now : State) (e : Event) (reply : Reply) (notices : List Notice) → (now, reply, notices) ≡ step s e → HasPairedTimers s → HasPairedTimers now
+pub settled : (s now : State) (e : Event) (reply : Reply) (notices : List Notice) → (now, reply, notices) ≡ step s e
+    → HasPairedTimers s → HasPairedTimers now
 settled s now e reply notices is a = subst (λ (o : Outcome). HasPairedTimers o.0) (sym is) (settled-step s e a)
 
 -- a newly opened board

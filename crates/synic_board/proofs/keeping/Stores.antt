@@ -53,19 +53,28 @@ without-whole n s p i h = record {
   messages = h.messages;
 }
 
-pub without-slot : (n : ℕ) (s : State) (p i q j : ℕ) → IsWhole n s → p < n → i < 16 → j < 16 → ((p ≡ q → i ≢ j) → slot_of s q j ≡ None) → slot_of (with_slot_ticket s p i None) q j ≡ None
+pub without-slot : (n : ℕ) (s : State) (p i q j : ℕ) → IsWhole n s → p < n → i < 16 → j < 16
+    → ((p ≡ q → i ≢ j) → slot_of s q j ≡ None) → slot_of (with_slot_ticket s p i None) q j ≡ None
 without-slot n s p i q j h below under inside free = split (cases_eq (source_number q j) (source_number p i))
   where
-    split : (source_number q j ≡ source_number p i) ⊎ (source_number q j ≢ source_number p i) → slot_of (with_slot_ticket s p i None) q j ≡ None
-    split (inl same) = ap (λ k. slice_index_or (slice_set s.slots (source_number p i) None) k None) same ∙ get_or-set_same s.slots (source_number p i) None None (omega (arith, h.slots))
-    split (inr ne) = get_or-set_other s.slots (source_number p i) (source_number q j) None None ne ∙ free (λ a b. ne (omega (arith, a, b)))
+    split : (source_number q j ≡ source_number p i) ⊎ (source_number q j ≢ source_number p i)
+        → slot_of (with_slot_ticket s p i None) q j ≡ None
+    split (inl same) =
+        ap (λ k. slice_index_or (slice_set s.slots (source_number p i) None) k None) same
+        ∙ get_or-set_same s.slots (source_number p i) None None (omega (arith, h.slots))
+    split (inr ne) =
+        get_or-set_other s.slots (source_number p i) (source_number q j) None None ne
+        ∙ free (λ a b. ne (omega (arith, a, b)))
 
-consumes-ticket : (n : ℕ) (s : State) (p i x : ℕ) → IsPartly n p i s → p < n → i < 16 → slot_of s p i ≡ Some x → Consumes n p (suc i) s (consumed_ticket s p i (Some x))
+consumes-ticket : (n : ℕ) (s : State) (p i x : ℕ) → IsPartly n p i s → p < n → i < 16 → slot_of s p i ≡ Some x
+    → Consumes n p (suc i) s (consumed_ticket s p i (Some x))
 consumes-ticket n s p i x h below under is = record {
   partly = record {
     count = h.count;
     whole = without-whole n s p i h.whole;
-    empty = λ q j within inside low z. without-slot n s p i q j h.whole below under inside (λ apart. h.empty q j within inside (λ e. omega (arith, low e, apart (sym e))) z);
+    empty = λ q j within inside low z.
+        without-slot n s p i q j h.whole below under inside
+        (λ apart. h.empty q j within inside (λ e. omega (arith, low e, apart (sym e))) z);
   };
   next = refl;
   conserves = λ t. omega (
@@ -84,17 +93,23 @@ consumes-ticket n s p i x h below under is = record {
 
 consumes-nothing : (n : ℕ) (s : State) (p i : ℕ) → IsPartly n p i s → IsFree s p i → Consumes n p (suc i) s (nothing s)
 consumes-nothing n s p i h free = record {
-  partly = record { count = h.count; whole = h.whole; empty = λ q j within inside low. split q j within inside low (cases_eq q p) (cases_eq j i) };
+  partly = record {
+    count = h.count;
+    whole = h.whole;
+    empty = λ q j within inside low. split q j within inside low (cases_eq q p) (cases_eq j i);
+  };
   next = refl;
   conserves = still s s [] (record { queues = refl; slots = refl; next = refl }) (λ t. refl);
 }
   where
     split : (q j : ℕ) → q < n → j < 16 → (q ≡ p → j < suc i) → (q ≡ p) ⊎ (q ≢ p) → (j ≡ i) ⊎ (j ≢ i) → IsFree s q j
-    split q j within inside low (inl e) (inl f) = λ z. (λ k. slot_of s (e k) (f k)) ∙ free ((λ k. slot_type (page_of s (sym e k)) (sym f k)) ∙ z)
+    split q j within inside low (inl e) (inl f) =
+        λ z. (λ k. slot_of s (e k) (f k)) ∙ free ((λ k. slot_type (page_of s (sym e k)) (sym f k)) ∙ z)
     split q j within inside low (inl e) (inr ne) = h.empty q j within inside (λ e. omega (arith, low e, ne))
     split q j within inside low (inr ne) _ = h.empty q j within inside (λ e. absurd (ne e))
 
-consumes-one : (n : ℕ) (s : State) (p i : ℕ) → IsPartly n p i s → p < n → i < 16 → Consumes n p (suc i) s (consumed s p i)
+consumes-one : (n : ℕ) (s : State) (p i : ℕ) → IsPartly n p i s → p < n → i < 16
+    → Consumes n p (suc i) s (consumed s p i)
 unfolding consumed
 consumes-one n s p i h below under =
     either (Consumes n p (suc i) s) (is_slot_empty s p i) _ _
@@ -105,9 +120,15 @@ consumes-one n s p i h below under =
     held None is = consumes-nothing n s p i h (λ _. is)
     held (Some x) is = consumes-ticket n s p i x h below under is
 
-consumes-below : (n : ℕ) (s : State) (p i : ℕ) → IsPartly n p 0 s → p < n → i ≤ 16 → Consumes n p i s (consumed_below s p i)
+consumes-below : (n : ℕ) (s : State) (p i : ℕ) → IsPartly n p 0 s → p < n → i ≤ 16
+    → Consumes n p i s (consumed_below s p i)
 unfolding consumed_below
-consumes-below n s p zero h below bound = record { partly = h; next = refl; conserves = still s s [] (record { queues = refl; slots = refl; next = refl }) (λ t. refl) }
+consumes-below n s p zero h below bound =
+    record {
+      partly = h;
+      next = refl;
+      conserves = still s s [] (record { queues = refl; slots = refl; next = refl }) (λ t. refl);
+    }
 consumes-below n s p (suc i) h below bound =
     let e : Effect = consumed_below s p i in
     let first = consumes-below n s p i h below (omega arith) in
@@ -115,28 +136,43 @@ consumes-below n s p (suc i) h below bound =
     record {
       partly = second.partly;
       next = second.next ∙ first.next;
-      conserves = conserves-after s e (consumed e.0 p i) (omega (arith, first.next)) (omega (arith, second.next)) first.conserves second.conserves;
+      conserves = conserves-after s e (consumed e.0 p i) (omega (arith, first.next))
+          (omega (arith, second.next)) first.conserves second.conserves;
     }
 
-keeps-consumed : (n : ℕ) (s now : State) (p : ℕ) → AreStill s now → IsPartly n p 0 now → p < n → KeepsMessages n s (consumed_below now p 16)
+keeps-consumed : (n : ℕ) (s now : State) (p : ℕ) → AreStill s now → IsPartly n p 0 now → p < n
+    → KeepsMessages n s (consumed_below now p 16)
 keeps-consumed n s now p same h below =
     let all = consumes-below n now p 16 h below (omega arith) in
     record {
-      kept = record { count = all.partly.count; whole = all.partly.whole; empty = λ q j within inside. all.partly.empty q j within inside (λ _. inside) };
+      kept = record {
+        count = all.partly.count;
+        whole = all.partly.whole;
+        empty = λ q j within inside. all.partly.empty q j within inside (λ _. inside);
+      };
       tickets_monotone = omega (arith, all.next, same.next);
-      conserves = conserves-after s (now, []) (consumed_below now p 16) (omega (arith, same.next)) (omega (arith, all.next)) (still s now [] same (λ t. refl)) all.conserves;
+      conserves = conserves-after s (now, []) (consumed_below now p 16) (omega (arith, same.next))
+          (omega (arith, all.next)) (still s now [] same (λ t. refl)) all.conserves;
     }
 
 -- a store does not change the length of a page
-pub length-overwritten : (page bytes : List ℕ) (at : ℕ) → length page ≡ 4096 → at + length bytes ≤ 4096 → length (overwritten page at bytes) ≡ 4096
+pub length-overwritten : (page bytes : List ℕ) (at : ℕ) → length page ≡ 4096 → at + length bytes ≤ 4096
+    → length (overwritten page at bytes) ≡ 4096
 length-overwritten page bytes at l fits =
-    omega (arith, length-append (take at page ++ bytes) (drop (at + length bytes) page), length-append (take at page) bytes, length-take at page, length-drop (at + length bytes) page)
+    omega (
+      arith,
+      length-append (take at page ++ bytes) (drop (at + length bytes) page),
+      length-append (take at page) bytes,
+      length-take at page,
+      length-drop (at + length bytes) page,
+    )
 
 -- an overlay's own page is written
 abbrev pub with_own : State → ℕ → List ℕ → State
 with_own s k page = record s { own = slice_set s.own k page }
 
-pub own-whole : (n : ℕ) (s : State) (k : ℕ) (page : List ℕ) → IsWhole n s → length page ≡ 4096 → IsWhole n (with_own s k page)
+pub own-whole : (n : ℕ) (s : State) (k : ℕ) (page : List ℕ) → IsWhole n s → length page ≡ 4096
+    → IsWhole n (with_own s k page)
 own-whole n s k page h l = record {
   registers = h.registers;
   own = length-set s.own k page ∙ h.own;
@@ -149,21 +185,30 @@ own-whole n s k page h l = record {
 }
 
 -- the slots of another page
-pub own-other : (n : ℕ) (s : State) (k q j : ℕ) (page : List ℕ) → IsIntact n s → q < n → j < 16 → 2 * q ≢ k → IsFree (with_own s k page) q j
-own-other n s k q j page h within inside ne z = h.empty q j within inside (sym (ap (λ x. slot_type x j) (get_or-set_other s.own k (2 * q) page [] ne)) ∙ z)
+pub own-other : (n : ℕ) (s : State) (k q j : ℕ) (page : List ℕ) → IsIntact n s → q < n → j < 16 → 2 * q ≢ k
+    → IsFree (with_own s k page) q j
+own-other n s k q j page h within inside ne z =
+    h.empty q j within inside (sym (ap (λ x. slot_type x j) (get_or-set_other s.own k (2 * q) page [] ne)) ∙ z)
 
-keeps-own : (n : ℕ) (s : State) (k : ℕ) (page : List ℕ) → IsIntact n s → k < 2 * n → length page ≡ 4096 → KeepsMessages n s (consumed_in (with_own s k page) (overlay_owner k))
+keeps-own : (n : ℕ) (s : State) (k : ℕ) (page : List ℕ) → IsIntact n s → k < 2 * n → length page ≡ 4096
+    → KeepsMessages n s (consumed_in (with_own s k page) (overlay_owner k))
 keeps-own n s k page h low l =
     either (λ o. KeepsMessages n s (consumed_in (with_own s k page) o)) (k % 2 == 0) _ _
     (λ e. keeps-consumed n s (with_own s k page) (k / 2) (record { queues = refl; slots = refl; next = refl })
     (record {
       count = h.count;
       whole = own-whole n s k page h.whole l;
-      empty = λ q j within inside off. own-other n s k q j page h within inside (λ f. let same : q ≡ k / 2 = omega arith in absurd (omega (arith, off same)));
+      empty = λ q j within inside off.
+          own-other n s k q j page h within inside
+          (λ f. let same : q ≡ k / 2 = omega arith in absurd (omega (arith, off same)));
     })
     (omega arith))
     (λ e. let odd : k % 2 ≢ 0 = λ f. absurd (grind (arith, nat_tests)) in record {
-      kept = record { count = h.count; whole = own-whole n s k page h.whole l; empty = λ q j within inside. own-other n s k q j page h within inside (λ f. odd (omega arith)) };
+      kept = record {
+        count = h.count;
+        whole = own-whole n s k page h.whole l;
+        empty = λ q j within inside. own-other n s k q j page h within inside (λ f. odd (omega arith));
+      };
       tickets_monotone = omega arith;
       conserves = still s (with_own s k page) [] (record { queues = refl; slots = refl; next = refl }) (λ t. refl);
     })
@@ -187,34 +232,56 @@ guest-kept n s pages h = record {
 -- an accepted store to that visible overlay, or to the guest page
 abbrev store_at : State → ℕ → ℕ → List ℕ → Option ℕ → Space
 store_at s page at bytes o =
-    let stored : List ℕ = overwritten (option_map_or (λ overlay. slice_index_or s.own overlay []) o (slice_index_or s.pages page [])) at bytes in
-    option_map_or (λ overlay. record (space_of s) { own = slice_set s.own overlay stored }) o (record (space_of s) { pages = slice_set s.pages page stored })
+    let stored : List ℕ =
+    overwritten (option_map_or (λ overlay. slice_index_or s.own overlay []) o (slice_index_or s.pages page [])) at
+    bytes in
+    option_map_or (λ overlay. record (space_of s) { own = slice_set s.own overlay stored }) o
+    (record (space_of s) { pages = slice_set s.pages page stored })
 
-keeps-store_at : (n : ℕ) (s : State) (page at : ℕ) (bytes : List ℕ) → IsIntact n s → at + length bytes ≤ 4096 → nat_lt page (page_count (space_of s)) ≡ true → (o : Option ℕ) →
+keeps-store_at : (n : ℕ) (s : State) (page at : ℕ) (bytes : List ℕ) → IsIntact n s → at + length bytes ≤ 4096
+    → nat_lt page (page_count (space_of s)) ≡ true → (o : Option ℕ) →
     visible (space_of s) page ≡ o →
-    KeepsMessages n s (consumed_in (with_space s (store_at s page at bytes o)) (if nat_lt page (page_count (space_of s)) then option_map_or overlay_owner o Guest else Nothing))
+    KeepsMessages n s (consumed_in (with_space s (store_at s page at bytes o))
+    (if nat_lt page (page_count (space_of s)) then option_map_or overlay_owner o Guest else Nothing))
 keeps-store_at n s page at bytes h fits inside o is = rw inside (seen o is)
   where
-    seen : (o : Option ℕ) → visible (space_of s) page ≡ o → KeepsMessages n s (consumed_in (with_space s (store_at s page at bytes o)) (option_map_or overlay_owner o Guest))
+    seen : (o : Option ℕ) → visible (space_of s) page ≡ o
+        → KeepsMessages n s (consumed_in (with_space s (store_at s page at bytes o))
+        (option_map_or overlay_owner o Guest))
     seen None is = record {
       kept = guest-kept n s (slice_set s.pages page (overwritten (slice_index_or s.pages page []) at bytes)) h;
       tickets_monotone = omega arith;
-      conserves = still s (record s { pages = slice_set s.pages page (overwritten (slice_index_or s.pages page []) at bytes) }) [] (record { queues = refl; slots = refl; next = refl }) (λ t. refl);
+      conserves = still s
+          (record s { pages = slice_set s.pages page (overwritten (slice_index_or s.pages page []) at bytes) }) []
+          (record { queues = refl; slots = refl; next = refl }) (λ t. refl);
     }
     seen (Some k) is =
-        let low : k < 2 * n = omega (arith, (position-Some (is_mapped_at page) (overlay_registers s.regs) k 0 is).0, length-overlays s.regs, h.whole.registers) in
-        keeps-own n s k (overwritten (slice_index_or s.own k []) at bytes) h low (length-overwritten (slice_index_or s.own k []) bytes at (h.whole.pages k [] (omega (arith, h.whole.own))) fits)
+        let low : k < 2 * n =
+        omega (
+          arith,
+          (position-Some (is_mapped_at page) (overlay_registers s.regs) k 0 is).0,
+          length-overlays s.regs,
+          h.whole.registers,
+        ) in
+        keeps-own n s k (overwritten (slice_index_or s.own k []) at bytes) h low
+        (length-overwritten (slice_index_or s.own k []) bytes at
+        (h.whole.pages k [] (omega (arith, h.whole.own))) fits)
 
 fits-page : (s : Space) (address count : ℕ) → refusal_of s address count ≡ None → address % 4096 + count ≤ 4096
 fits-page s address count none = grind (arith, nat_tests)
 
-in-space : (s : Space) (address count : ℕ) → refusal_of s address count ≡ None → nat_lt (address / 4096) (page_count s) ≡ true
+in-space : (s : Space) (address count : ℕ) → refusal_of s address count ≡ None
+    → nat_lt (address / 4096) (page_count s) ≡ true
 in-space s address count none = grind (arith, nat_tests)
 
-pub keeps-stored_bytes : (n : ℕ) (s : State) (address : ℕ) (bytes : List ℕ) → IsIntact n s → KeepsMessagesOf n s (stored_bytes s address bytes)
+pub keeps-stored_bytes : (n : ℕ) (s : State) (address : ℕ) (bytes : List ℕ) → IsIntact n s
+    → KeepsMessagesOf n s (stored_bytes s address bytes)
 keeps-stored_bytes n s address bytes h = judged (refusal_of (space_of s) address (length bytes)) refl
   where
-    judged : (o : Option Refusal) → refusal_of (space_of s) address (length bytes) ≡ o → KeepsMessagesOf n s (stored_bytes s address bytes)
+    judged : (o : Option Refusal) → refusal_of (space_of s) address (length bytes) ≡ o
+        → KeepsMessagesOf n s (stored_bytes s address bytes)
     judged (Some r) is = rw is (messages-kept n s (nothing s) (keeps-unchanged n s (Refused r) h))
-    judged None is = rw is (keeps-store_at n s (address / 4096) (address % 4096) bytes h (fits-page (space_of s) address (length bytes) is)
+    judged None is =
+        rw is (keeps-store_at n s (address / 4096) (address % 4096) bytes h
+        (fits-page (space_of s) address (length bytes) is)
         (in-space (space_of s) address (length bytes) is) (visible (space_of s) (address / 4096)) refl)

@@ -33,7 +33,8 @@ ascends-below : (next : ℕ) (q : List Message) → Ascends next q → All (λ x
 ascends-below next [] h = All-nil (λ x. ticket_of x < next)
 ascends-below next (m ∷ q) h = All-cons (λ x. ticket_of x < next) m q h.0 (ascends-below next q h.2)
 
-pub ascends-push : (next : ℕ) (q : List Message) (m : Message) → All (λ x. ticket_of x < ticket_of m) q → ticket_of m < next → Ascends next q → Ascends next (q ++ m ∷ [])
+pub ascends-push : (next : ℕ) (q : List Message) (m : Message) → All (λ x. ticket_of x < ticket_of m) q
+    → ticket_of m < next → Ascends next q → Ascends next (q ++ m ∷ [])
 ascends-push next [] m below low h = (low, All-nil (λ x. ticket_of m < ticket_of x), tt)
 ascends-push next (x ∷ q) m below low h = (
   h.0,
@@ -41,9 +42,11 @@ ascends-push next (x ∷ q) m below low h = (
   ascends-push next q m (All-tail (λ y. ticket_of y < ticket_of m) x q below) low h.2,
 )
 
-ascends-joined : (next : ℕ) (q : List Message) (m : Message) → ticket_of m ≡ next → Ascends next q → Ascends (next + 1) (q ++ m ∷ [])
+ascends-joined : (next : ℕ) (q : List Message) (m : Message) → ticket_of m ≡ next → Ascends next q
+    → Ascends (next + 1) (q ++ m ∷ [])
 ascends-joined next q m is h =
-    ascends-push (next + 1) q m (subst (λ t. All (λ x. ticket_of x < t) q) (sym is) (ascends-below next q h)) (omega (arith, is)) (ascends-more next (next + 1) q (omega arith) h)
+    ascends-push (next + 1) q m (subst (λ t. All (λ x. ticket_of x < t) q) (sym is) (ascends-below next q h))
+    (omega (arith, is)) (ascends-more next (next + 1) q (omega arith) h)
 
 pub ascends-left : (port next : ℕ) (q : List Message) → Ascends next q → Ascends next (left_of port q)
 ascends-left port next [] h = tt
@@ -58,50 +61,64 @@ timely-later a b i le (FromPort ticket port kind payload) h = tt
 timely-later a b i le (FromTimer ticket t expiration) h = (h.0, omega (arith, h.1, le))
 
 -- each queue, of which one is written
-each-queue : (P : ℕ → List Message → Type 0) (qs : Queues) (j : ℕ) (q : List Message) → P j q → ((k : ℕ) → P k (get_or qs k [])) → (k : ℕ) → P k (get_or (set qs j q) k [])
+each-queue : (P : ℕ → List Message → Type 0) (qs : Queues) (j : ℕ) (q : List Message) → P j q
+    → ((k : ℕ) → P k (get_or qs k [])) → (k : ℕ) → P k (get_or (set qs j q) k [])
 each-queue P qs j q new old k = split (cases_eq k j) (cases_lt j (length qs))
   where
     split : (k ≡ j) ⊎ (k ≢ j) → (j < length qs) ⊎ (length qs ≤ j) → P k (get_or (set qs j q) k [])
-    split (inl same) (inl inside) = subst (λ n. P n (get_or (set qs j q) n [])) (sym same) (subst (P j) (sym (get_or-set_same qs j q [] inside)) new)
+    split (inl same) (inl inside) =
+        subst (λ n. P n (get_or (set qs j q) n [])) (sym same)
+        (subst (P j) (sym (get_or-set_same qs j q [] inside)) new)
     split (inr other) _ = subst (P k) (sym (get_or-set_other qs j k q [] other)) (old k)
     split _ (inr past) = subst (λ xs. P k (get_or xs k [])) (sym (set_past qs j q past)) (old k)
 
 -- the same queues and timers, and maybe a later time and a greater ticket
-pub timed-same : (s now : State) → now.queues ≡ s.queues → now.next_ticket ≡ s.next_ticket → now.moment ≡ s.moment → now.timers ≡ s.timers → IsTimed s → IsTimed now
+pub timed-same : (s now : State) → now.queues ≡ s.queues → now.next_ticket ≡ s.next_ticket → now.moment ≡ s.moment
+    → now.timers ≡ s.timers → IsTimed s → IsTimed now
 timed-same s now queues next moment timers h = record {
-  order = λ k. subst (λ n. Ascends n (get_or now.queues k [])) (sym next) (subst (λ qs. Ascends s.next_ticket (get_or qs k [])) (sym queues) (h.order k));
-  timely = λ k. subst (λ n. All (HasExpired n (k % 16)) (get_or now.queues k [])) (sym moment) (subst (λ qs. All (HasExpired s.moment (k % 16)) (get_or qs k [])) (sym queues) (h.timely k));
+  order = λ k. subst (λ n. Ascends n (get_or now.queues k [])) (sym next)
+      (subst (λ qs. Ascends s.next_ticket (get_or qs k [])) (sym queues) (h.order k));
+  timely = λ k. subst (λ n. All (HasExpired n (k % 16)) (get_or now.queues k [])) (sym moment)
+      (subst (λ qs. All (HasExpired s.moment (k % 16)) (get_or qs k [])) (sym queues) (h.timely k));
   sound = λ n. subst (λ ts. IsSoundTimer (get_or ts n idle_timer)) (sym timers) (h.sound n);
-  near = λ n. subst (λ m. IsNear m (get_or now.timers n idle_timer)) (sym moment) (subst (λ ts. IsNear s.moment (get_or ts n idle_timer)) (sym timers) (h.near n));
+  near = λ n. subst (λ m. IsNear m (get_or now.timers n idle_timer)) (sym moment)
+      (subst (λ ts. IsNear s.moment (get_or ts n idle_timer)) (sym timers) (h.near n));
 }
 
 pub timed-moment : (s : State) (moment : ℕ) → s.moment ≤ moment → IsTimed s → IsTimed (at_moment s moment)
 timed-moment s moment later h = record {
   order = h.order;
-  timely = λ k. All-weaker (HasExpired s.moment (k % 16)) (HasExpired moment (k % 16)) (timely-later s.moment moment (k % 16) later) (get_or s.queues k []) (h.timely k);
+  timely = λ k. All-weaker (HasExpired s.moment (k % 16)) (HasExpired moment (k % 16))
+      (timely-later s.moment moment (k % 16) later) (get_or s.queues k []) (h.timely k);
   sound = h.sound;
   near = λ n d due periodic. omega (arith, h.near n d due periodic, later);
 }
 
 -- a queue is written
-pub timed-queue : (s now : State) (j : ℕ) (q : List Message) → now.queues ≡ set s.queues j q → now.next_ticket ≡ s.next_ticket → now.moment ≡ s.moment → now.timers ≡ s.timers →
+pub timed-queue : (s now : State) (j : ℕ) (q : List Message) → now.queues ≡ set s.queues j q
+    → now.next_ticket ≡ s.next_ticket → now.moment ≡ s.moment → now.timers ≡ s.timers →
     Ascends s.next_ticket q → All (HasExpired s.moment (j % 16)) q → IsTimed s → IsTimed now
-timed-queue s now j q queues next moment timers order timely h = timed-same written now queues next moment timers (record {
-  order = each-queue (λ k. Ascends s.next_ticket) s.queues j q order h.order;
-  timely = each-queue (λ k. All (HasExpired s.moment (k % 16))) s.queues j q timely h.timely;
-  sound = h.sound;
-  near = h.near;
-})
+timed-queue s now j q queues next moment timers order timely h =
+    timed-same written now queues next moment timers (record {
+      order = each-queue (λ k. Ascends s.next_ticket) s.queues j q order h.order;
+      timely = each-queue (λ k. All (HasExpired s.moment (k % 16))) s.queues j q timely h.timely;
+      sound = h.sound;
+      near = h.near;
+    })
   where
     written : State
     written = record s { queues = set s.queues j q }
 
-pub timed-accepted : (s : State) (p i : ℕ) (m : Message) → i < 16 → ticket_of m ≡ s.next_ticket → HasExpired s.moment i m → IsTimed s → IsTimed (accepted s p i m).0
+pub timed-accepted : (s : State) (p i : ℕ) (m : Message) → i < 16 → ticket_of m ≡ s.next_ticket
+    → HasExpired s.moment i m → IsTimed s → IsTimed (accepted s p i m).0
 timed-accepted s p i m under is timely h = record {
-  order = each-queue (λ k. Ascends (s.next_ticket + 1)) s.queues (source_number p i) (queue_of s.queues p i ++ m ∷ []) (ascends-joined s.next_ticket (queue_of s.queues p i) m is (h.order (source_number p i)))
+  order = each-queue (λ k. Ascends (s.next_ticket + 1)) s.queues (source_number p i) (queue_of s.queues p i ++ m ∷ [])
+      (ascends-joined s.next_ticket (queue_of s.queues p i) m is (h.order (source_number p i)))
       (λ k. ascends-more s.next_ticket (s.next_ticket + 1) (get_or s.queues k []) (omega arith) (h.order k));
-  timely = each-queue (λ k. All (HasExpired s.moment (k % 16))) s.queues (source_number p i) (queue_of s.queues p i ++ m ∷ [])
-      (All-push (HasExpired s.moment (source_number p i % 16)) (queue_of s.queues p i) m (h.timely (source_number p i)) (subst (λ n. HasExpired s.moment n m) (sym place) timely)) h.timely;
+  timely = each-queue (λ k. All (HasExpired s.moment (k % 16))) s.queues (source_number p i)
+      (queue_of s.queues p i ++ m ∷ [])
+      (All-push (HasExpired s.moment (source_number p i % 16)) (queue_of s.queues p i) m
+      (h.timely (source_number p i)) (subst (λ n. HasExpired s.moment n m) (sym place) timely)) h.timely;
   sound = h.sound;
   near = h.near;
 }
@@ -110,14 +127,16 @@ timed-accepted s p i m under is timely h = record {
     place = omega (arith, under)
 
 -- a timer is written
-near-set : (moment : ℕ) (ts : List Timer) (j : ℕ) (x : Timer) → IsNear moment x → ((n : ℕ) → IsNear moment (get_or ts n idle_timer)) → (n : ℕ) → IsNear moment (get_or (set ts j x) n idle_timer)
+near-set : (moment : ℕ) (ts : List Timer) (j : ℕ) (x : Timer) → IsNear moment x
+    → ((n : ℕ) → IsNear moment (get_or ts n idle_timer)) → (n : ℕ) → IsNear moment (get_or (set ts j x) n idle_timer)
 near-set moment [] j x new old n = old n
 near-set moment (y ∷ ys) zero x new old zero = new
 near-set moment (y ∷ ys) zero x new old (suc n) = old (suc n)
 near-set moment (y ∷ ys) (suc j) x new old zero = old zero
 near-set moment (y ∷ ys) (suc j) x new old (suc n) = near-set moment ys j x new (λ k. old (suc k)) n
 
-pub timed-timer : (s : State) (t : ℕ × ℕ) (x : Timer) → IsSoundTimer x → IsNear s.moment x → IsTimed s → IsTimed (with_bank s (with_timer (bank_of s) t x))
+pub timed-timer : (s : State) (t : ℕ × ℕ) (x : Timer) → IsSoundTimer x → IsNear s.moment x → IsTimed s
+    → IsTimed (with_bank s (with_timer (bank_of s) t x))
 timed-timer s t x sound near h = record {
   order = h.order;
   timely = h.timely;
@@ -125,19 +144,22 @@ timed-timer s t x sound near h = record {
   near = near-set s.moment s.timers (number_of t) x near h.near;
 }
 
-pub timed-config : (s : State) (t : ℕ × ℕ) (value : ℕ) → IsTimed s → IsTimed (with_bank s (with_timer (bank_of s) t (after_config (timer_in (bank_of s) t) value s.moment)))
+pub timed-config : (s : State) (t : ℕ × ℕ) (value : ℕ) → IsTimed s
+    → IsTimed (with_bank s (with_timer (bank_of s) t (after_config (timer_in (bank_of s) t) value s.moment)))
 timed-config s t value h =
     let x : Timer = timer_in (bank_of s) t in
     timed-timer s t (after_config x value s.moment) (sound-config x value s.moment)
     (λ d due periodic. near-started (after_config x value s.moment).config x.count s.moment d periodic due) h
 
-pub timed-count : (s : State) (t : ℕ × ℕ) (value : ℕ) → IsTimed s → IsTimed (with_bank s (with_timer (bank_of s) t (after_count (timer_in (bank_of s) t) value s.moment)))
+pub timed-count : (s : State) (t : ℕ × ℕ) (value : ℕ) → IsTimed s
+    → IsTimed (with_bank s (with_timer (bank_of s) t (after_count (timer_in (bank_of s) t) value s.moment)))
 timed-count s t value h =
     let x : Timer = timer_in (bank_of s) t in
     timed-timer s t (after_count x value s.moment) (sound-count x value s.moment (h.sound (number_of t)))
     (λ d due periodic. near-started (after_count x value s.moment).config value s.moment d periodic due) h
 
-pub timed-expired : (s : State) (t : ℕ × ℕ) → is_due (timer_in (bank_of s) t) s.moment ≡ true → IsTimed s → IsTimed (expired_state s t)
+pub timed-expired : (s : State) (t : ℕ × ℕ) → is_due (timer_in (bank_of s) t) s.moment ≡ true → IsTimed s
+    → IsTimed (expired_state s t)
 timed-expired s t due h =
     let x : Timer = timer_in (bank_of s) t in
     timed-timer s t (after_expiry x s.moment).0 (sound-expired x s.moment due (h.sound (number_of t)))

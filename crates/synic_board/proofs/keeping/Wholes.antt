@@ -21,7 +21,9 @@ pub kept_from_sound : (s : State) → IsSound s → IsIntact (processors s) s
 kept_from_sound s h = record { count = refl; whole = h.whole; empty = h.empty }
 
 pub sound_from_kept : (n : ℕ) (s : State) → IsIntact n s → AreTickets s → IsSound s
-sound_from_kept n s kept tickets = let h = subst (λ k. IsIntact k s) (sym kept.count) kept in record { whole = h.whole; empty = h.empty; tickets = tickets }
+sound_from_kept n s kept tickets =
+    let h =
+    subst (λ k. IsIntact k s) (sym kept.count) kept in record { whole = h.whole; empty = h.empty; tickets = tickets }
 
 -- an effect conserves the messages and preserves the rest
 pub record KeepsMessages (n : ℕ) (s : State) (e : Effect) : Type 0 where
@@ -51,13 +53,30 @@ pub record AreStill (s now : State) : Type 0 where
 
 pub still : (s now : State) (notices : List Notice) → AreStill s now → EndsNone notices → Conserves s now notices
 still s now notices same none t =
-    omega (arith, times-locations t s, times-locations t now, none t, given-none t s now same.next, ap (in_queues t) same.queues, ap (in_slots t) same.slots)
+    omega (
+      arith,
+      times-locations t s,
+      times-locations t now,
+      none t,
+      given-none t s now same.next,
+      ap (in_queues t) same.queues,
+      ap (in_slots t) same.slots,
+    )
 
-pub keeps-still : (n : ℕ) (s : State) (e : Effect) → IsIntact n e.0 → AreStill s e.0 → Leaves n s e.0 → EndsNone e.1 → Keeps n s e
-keeps-still n s e h same left none = record { kept = h; tickets_monotone = omega (arith, same.next); conserves = still s e.0 e.1 same none; leaves = left }
+pub keeps-still : (n : ℕ) (s : State) (e : Effect) → IsIntact n e.0 → AreStill s e.0 → Leaves n s e.0 → EndsNone e.1
+    → Keeps n s e
+keeps-still n s e h same left none =
+    record {
+      kept = h;
+      tickets_monotone = omega (arith, same.next);
+      conserves = still s e.0 e.1 same none;
+      leaves = left;
+    }
 
 pub keeps-nothing : (n : ℕ) (s : State) → IsIntact n s → Keeps n s (nothing s)
-keeps-nothing n s h = keeps-still n s (nothing s) h (record { queues = refl; slots = refl; next = refl }) (leaves-same n s s refl refl) (λ t. refl)
+keeps-nothing n s h =
+    keeps-still n s (nothing s) h (record { queues = refl; slots = refl; next = refl }) (leaves-same n s s refl refl)
+    (λ t. refl)
 
 -- an outcome, without its reply
 abbrev pub KeepsOutcome : ℕ → State → Outcome → Type 0
@@ -70,10 +89,13 @@ pub keeps-unchanged : (n : ℕ) (s : State) (reply : Reply) → IsIntact n s →
 keeps-unchanged n s reply h = keeps-nothing n s h
 
 -- one effect after another
-pub conserves-after : (s : State) (e f : Effect) → s.next_ticket ≤ e.0.next_ticket → e.0.next_ticket ≤ f.0.next_ticket → Conserves s e.0 e.1 → Conserves e.0 f.0 f.1 → Conserves s f.0 (e.1 ++ f.1)
-conserves-after s e f h k first second t = omega (arith, first t, second t, ended-append t e.1 f.1, given-after t s e.0 f.0 h k)
+pub conserves-after : (s : State) (e f : Effect) → s.next_ticket ≤ e.0.next_ticket → e.0.next_ticket ≤ f.0.next_ticket
+    → Conserves s e.0 e.1 → Conserves e.0 f.0 f.1 → Conserves s f.0 (e.1 ++ f.1)
+conserves-after s e f h k first second t =
+    omega (arith, first t, second t, ended-append t e.1 f.1, given-after t s e.0 f.0 h k)
 
-pub messages-after : (n : ℕ) (s : State) (e f : Effect) → KeepsMessages n s e → KeepsMessages n e.0 f → KeepsMessages n s (after e f)
+pub messages-after : (n : ℕ) (s : State) (e f : Effect) → KeepsMessages n s e → KeepsMessages n e.0 f
+    → KeepsMessages n s (after e f)
 messages-after n s e f first second = record {
   kept = second.kept;
   tickets_monotone = omega (arith, first.tickets_monotone, second.tickets_monotone);
@@ -89,7 +111,8 @@ keeps-after n s e f first second = record {
 }
 
 -- an effect that conserves the messages keeps each ticket in one place
-pub tickets-conserved : (s now : State) (notices : List Notice) → s.next_ticket ≤ now.next_ticket → Conserves s now notices → AreTickets s → AreTickets now
+pub tickets-conserved : (s now : State) (notices : List Notice) → s.next_ticket ≤ now.next_ticket
+    → Conserves s now notices → AreTickets s → AreTickets now
 tickets-conserved s now notices tickets_monotone conserves tickets = record { once = once; given_before = given_before }
   where
     at_most : (t : ℕ) → (t < s.next_ticket) ⊎ (s.next_ticket ≤ t) → times t (locations now) ≤ 1

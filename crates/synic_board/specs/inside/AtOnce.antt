@@ -21,7 +21,10 @@ marks s p i = delivers s p && not (is_slot_empty s p i)
 
 -- a message in its slot gets the next ticket, which the slot holds
 abbrev pub slot_taken : State → Processor → Source → Ticket → Effect
-slot_taken s p i ticket = (with_slot_ticket (record s { next_ticket = s.next_ticket + 1 }) p i (Some ticket), Accepted p i ticket ∷ Placed p i ticket ∷ [])
+slot_taken s p i ticket = (
+  with_slot_ticket (record s { next_ticket = s.next_ticket + 1 }) p i (Some ticket),
+  Accepted p i ticket ∷ Placed p i ticket ∷ [],
+)
 
 -- its bytes are written to the slot first
 abbrev pub filled_at_once : State → Processor → Source → List ℕ → Ticket → Effect

@@ -20,11 +20,25 @@ use Rattle.synic_board.specs.Summaries.{StoredSummary}
 
 abbrev pub state_code : Coded State
 state_code =
-    code_by (ℕ × (ℕ × (List Apic × (List Regs × (List (List ℕ) × (List (List ℕ) × (List (Option Port) × (List (List Message) × (List (Option ℕ) × (List Timer × List Bool))))))))))
-    (coded× coded_ℕ (coded× coded_ℕ (coded× (coded_list apic_code) (coded× (coded_list regs_code) (coded× (coded_list (coded_list coded_ℕ)) (coded× (coded_list (coded_list coded_ℕ))
+    code_by (ℕ ×
+    (ℕ × (List Apic × (List Regs
+    × (List (List ℕ) × (List (List ℕ)
+    × (List (Option Port) × (List (List Message) × (List (Option ℕ) × (List Timer × List Bool))))))))))
+    (coded× coded_ℕ (coded× coded_ℕ
+    (coded× (coded_list apic_code)
+    (coded× (coded_list regs_code)
+    (coded× (coded_list (coded_list coded_ℕ)) (coded× (coded_list (coded_list coded_ℕ))
     (coded× (coded_list (coded_option port.the_row.coded))
-    (coded× (coded_list (coded_list message.the_row.coded)) (coded× (coded_list (coded_option coded_ℕ)) (coded× (coded_list timer.the_row.coded) (coded_list coded_bool)))))))))))
-    (λ s. (s.moment, (s.next_ticket, (s.apics, (s.regs, (s.pages, (s.own, (s.ports, (s.queues, (s.slots, (s.timers, s.suspended)))))))))))
+    (coded× (coded_list (coded_list message.the_row.coded))
+    (coded× (coded_list (coded_option coded_ℕ))
+    (coded× (coded_list timer.the_row.coded) (coded_list coded_bool)))))))))))
+    (λ s. (
+      s.moment,
+      (
+        s.next_ticket,
+        (s.apics, (s.regs, (s.pages, (s.own, (s.ports, (s.queues, (s.slots, (s.timers, s.suspended)))))))),
+      ),
+    ))
     (λ p. record {
       moment = p.0;
       next_ticket = p.1.0;
@@ -40,12 +54,25 @@ state_code =
     }) (λ _. refl)
 
 abbrev pub model_code : Coded BoardModel
-model_code = code_by (State × ℕ) (coded× state_code coded_ℕ) (λ h. (h.state, h.writes)) (λ p. record { state = p.0; writes = p.1 }) (λ _. refl)
+model_code =
+    code_by (State × ℕ) (coded× state_code coded_ℕ) (λ h. (h.state, h.writes))
+    (λ p. record { state = p.0; writes = p.1 }) (λ _. refl)
 
 abbrev pub stored_summary_code : Coded StoredSummary
 stored_summary_code =
     code_by (List (Option ℕ) × (List Vectors × (List Owner × (List ℕ × (Option (ℕ × (ℕ × ℕ)) × ℕ)))))
     (coded× (coded_list (coded_option coded_ℕ))
-    (coded× (coded_list (set.code coded_ℕ)) (coded× (coded_list owner.the_row.coded) (coded× (coded_list coded_ℕ) (coded× (coded_option (coded× coded_ℕ (coded× coded_ℕ coded_ℕ))) coded_ℕ)))))
+    (coded× (coded_list (set.code coded_ℕ))
+    (coded× (coded_list owner.the_row.coded)
+    (coded× (coded_list coded_ℕ) (coded× (coded_option (coded× coded_ℕ (coded× coded_ℕ coded_ℕ))) coded_ℕ)))))
     (λ k. (k.values.nexts, (k.values.autos, (k.values.owners, (k.values.queued, (k.values.earliest, k.writes))))))
-    (λ p. record { values = record { nexts = p.0; autos = p.1.0; owners = p.1.1.0; queued = p.1.1.1.0; earliest = p.1.1.1.1.0 }; writes = p.1.1.1.1.1 }) (λ _. refl)
+    (λ p. record {
+      values = record {
+        nexts = p.0;
+        autos = p.1.0;
+        owners = p.1.1.0;
+        queued = p.1.1.1.0;
+        earliest = p.1.1.1.1.0;
+      };
+      writes = p.1.1.1.1.1;
+    }) (λ _. refl)

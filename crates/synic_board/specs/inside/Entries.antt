@@ -6,7 +6,8 @@ use Rattle.synic_board.specs.declared.summary.Entry.TheVariants.{Next, Auto, Own
 use Rattle.board_terms.specs.Sources.{source_number}
 use Rattle.synic_board.specs.inside.Waiting.{count_at}
 
--- there is such a value; a queue that a message was appended to has one, and one that was reduced has at most as many as before
+-- there is such a value; a queue that a message was appended to has one, and one that was reduced has at most as many
+-- as before
 abbrev pub HasEntry : Values → Entry → Type 0
 HasEntry v (Next p next) = p < length v.nexts
 HasEntry v (Auto p auto) = p < length v.autos

@@ -45,4 +45,5 @@ expired_message s timer expiration = FromTimer s.next_ticket timer expiration
 
 -- the bytes of the message of a timer in its slot
 abbrev pub timer_bytes : TimerId → Moment → Bool → Moment → List ℕ
-timer_bytes timer expiration pending delivery = message_bytes (header timer_kind 24 pending 0) (timer_payload timer.1 expiration delivery)
+timer_bytes timer expiration pending delivery =
+    message_bytes (header timer_kind 24 pending 0) (timer_payload timer.1 expiration delivery)

@@ -5,7 +5,8 @@ use Rattle.board_terms.specs.declared.pages.Owner.TheVariants.{Sim}
 use Rattle.synic_board.specs.State.{State}
 use Rattle.synic_board.specs.Sound.{IsFree}
 
--- the slot whose type is among the bytes from an offset on: the last slot that they reach, if they begin no later than its type
+-- the slot whose type is among the bytes from an offset on: the last slot that they reach, if they begin no later
+-- than its type
 abbrev pub touched : ℕ → ℕ → Option ℕ
 touched at count = if nat_lt at (256 * ((at + count - 1) / 256) + 4) then Some ((at + count - 1) / 256) else None
 

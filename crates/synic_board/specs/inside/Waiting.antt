@@ -9,9 +9,11 @@ count_at queued p i = slice_index_or queued (source_number p i) 0
 
 -- bit i of the word of processor p is set iff its source i has a queued message
 abbrev pub AreWaiting : List ℕ → List ℕ → Type 0
-AreWaiting queued words = (p i : ℕ) → p < 64 → i < 16 → (bit_at (slice_index_or words p 0) i == 1) ≡ nat_lt 0 (count_at queued p i)
+AreWaiting queued words =
+    (p i : ℕ) → p < 64 → i < 16 → (bit_at (slice_index_or words p 0) i == 1) ≡ nat_lt 0 (count_at queued p i)
 
 -- the first source, from a number on, with a queued message
 abbrev pub IsFirstWaiting : List ℕ → ℕ → ℕ → Option ℕ → Type 0
 IsFirstWaiting queued p from None = (i : ℕ) → from ≤ i → i < 16 → count_at queued p i ≡ 0
-IsFirstWaiting queued p from (Some s) = (from ≤ s) × (s < 16) × (0 < count_at queued p s) × ((i : ℕ) → from ≤ i → i < s → count_at queued p i ≡ 0)
+IsFirstWaiting queued p from (Some s) =
+    (from ≤ s) × (s < 16) × (0 < count_at queued p s) × ((i : ℕ) → from ≤ i → i < s → count_at queued p i ≡ 0)

@@ -27,7 +27,8 @@ impl Machine {
     #[inline(always)]
     pub(crate) fn write_overlay(&mut self, vp: Vp, kind: Kind, value: u64)
         requires { vp < processors self.old.state }
-        ensures state { self.new.state ≡ with_regs self.old.state vp (after_write (regs_of self.old.state vp) (overlay_register kind) value) }
+        ensures state { self.new.state
+            ≡ with_regs self.old.state vp (after_write (regs_of self.old.state vp) (overlay_register kind) value) }
         ensures writes_monotone { self.old.writes ≤ self.new.writes }
         ensures bound { self.new.writes ≤ self.old.writes + 2 }
     {
@@ -54,7 +55,8 @@ impl Machine {
 fn look_up(space: &Space, pages: u8, summary: &mut Summary, page: u64)
     requires pages { pages ≡ length space.now.pages }
     requires owners { length summary.old.values.owners ≡ length space.now.pages }
-    ensures values { summary.new.values ≡ with_owners summary.old.values (looked_up space.now summary.old.values.owners page) }
+    ensures values { summary.new.values
+        ≡ with_owners summary.old.values (looked_up space.now summary.old.values.owners page) }
     ensures writes_monotone { summary.old.writes ≤ summary.new.writes }
     ensures bound { summary.new.writes ≤ summary.old.writes + 1 }
 {

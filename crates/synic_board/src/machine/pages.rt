@@ -86,7 +86,8 @@ impl Machine {
     fn try_store(&mut self, address: u64, bytes: &[u8], notices: &mut Notices) -> Option<Refusal>
         requires none { notices.old ≡ [] }
         requires sound { IsSound self.old.state }
-        ensures step { (self.new.state, unless_refused Reply.Done result, notices.new) ≡ stored_bytes self.old.state address bytes.now }
+        ensures step { (self.new.state, unless_refused Reply.Done result, notices.new)
+            ≡ stored_bytes self.old.state address bytes.now }
         ensures writes { self.new.writes ≡ self.old.writes }
     {
         if let Some(bytes) = bytes.as_array::<4>() {
@@ -103,7 +104,8 @@ impl Machine {
     fn store_few(&mut self, address: u64, bytes: &[u8], notices: &mut Notices) -> Option<Refusal>
         requires none { notices.old ≡ [] }
         requires sound { IsSound self.old.state }
-        ensures step { (self.new.state, unless_refused Reply.Done result, notices.new) ≡ stored_bytes self.old.state address bytes.now }
+        ensures step { (self.new.state, unless_refused Reply.Done result, notices.new)
+            ≡ stored_bytes self.old.state address bytes.now }
         ensures writes { self.new.writes ≡ self.old.writes }
     {
         self.store_bytes(address, bytes, notices)
@@ -113,7 +115,8 @@ impl Machine {
     fn store_bytes(&mut self, address: u64, bytes: &[u8], notices: &mut Notices) -> Option<Refusal>
         requires none { notices.old ≡ [] }
         requires sound { IsSound self.old.state }
-        ensures step { (self.new.state, unless_refused Reply.Done result, notices.new) ≡ stored_bytes self.old.state address bytes.now }
+        ensures step { (self.new.state, unless_refused Reply.Done result, notices.new)
+            ≡ stored_bytes self.old.state address bytes.now }
         ensures writes { self.new.writes ≡ self.old.writes }
     {
         let owner = match self.space.store_slice(address, bytes) {

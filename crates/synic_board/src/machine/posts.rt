@@ -68,7 +68,8 @@ impl Machine {
     ) -> Reply
         requires none { notices.old ≡ [] }
         requires fits { length payload.now ≤ 240 }
-        ensures step { (self.new.state, result, notices.new) ≡ posted self.old.state port kind (record { items = payload.now }) }
+        ensures step { (self.new.state, result, notices.new)
+            ≡ posted self.old.state port kind (record { items = payload.now }) }
         ensures writes_monotone { self.old.writes ≤ self.new.writes }
         ensures bound { self.new.writes ≤ self.old.writes + length notices.new }
     {
@@ -91,7 +92,11 @@ impl Machine {
     ) -> Option<Refusal>
         requires none { notices.old ≡ [] }
         requires fits { length payload.now ≤ 240 }
-        ensures step { (self.new.state, unless_refused (Reply.Accepted self.old.state.next_ticket) result, notices.new) ≡ posted self.old.state port kind (record { items = payload.now }) }
+        ensures step { (
+          self.new.state,
+          unless_refused (Reply.Accepted self.old.state.next_ticket) result,
+          notices.new,
+        ) ≡ posted self.old.state port kind (record { items = payload.now }) }
         ensures writes_monotone { self.old.writes ≤ self.new.writes }
         ensures bound { self.new.writes ≤ self.old.writes + length notices.new }
     {

@@ -54,7 +54,9 @@ impl Machine {
     ) -> bool
         requires { timer.0 < processors self.old.state }
         ensures valid { IsTrue result ↔ IsSoundTimer (record { config = config; count = count; due = due }) }
-        ensures restored { self.new.state ≡ (if result then with_saved_timer self.old.state timer (record { config = config; count = count; due = due }) else self.old.state) }
+        ensures restored { self.new.state
+            ≡ (if result then with_saved_timer self.old.state timer
+            (record { config = config; count = count; due = due }) else self.old.state) }
     {
         if !self.timers.restore_timer(timer, config, count, due) {
             return false;
@@ -139,7 +141,8 @@ impl Machine {
     /// What holds for the parts of every machine.
     pub(crate) fn facts(&self)
         ensures timers { length self.now.state.timers ≡ 4 * processors self.now.state }
-        ensures ports { length self.now.state.ports ≡ port_count (processors self.now.state) (is_sparse (space_of self.now.state)) }
+        ensures ports { length self.now.state.ports
+            ≡ port_count (processors self.now.state) (is_sparse (space_of self.now.state)) }
         ensures sound { (n : ℕ) → IsSoundTimer (slice_index_or self.now.state.timers n idle_timer) }
         ensures pages { All (λ page. length page ≡ 4096) self.now.state.pages }
         ensures sizes { IsWithinLimits (processors self.now.state) (length self.now.state.pages) }
@@ -183,7 +186,11 @@ impl Machine {
 
     /// The registers of a timer and its deadline, even while its processor is suspended.
     pub(crate) fn timer(&self, timer: TimerId) -> (u64, u64, Option<u128>)
-        ensures { result ≡ ((timer_in (bank_of self.now.state) timer).config, (timer_in (bank_of self.now.state) timer).count, (timer_in (bank_of self.now.state) timer).due) }
+        ensures { result ≡ (
+          (timer_in (bank_of self.now.state) timer).config,
+          (timer_in (bank_of self.now.state) timer).count,
+          (timer_in (bank_of self.now.state) timer).due,
+        ) }
     {
         (
             self.timers.read_config(timer),
@@ -210,7 +217,8 @@ impl Machine {
     /// The last message of a queue.
     pub(crate) fn last_message(&self, vp: Vp, sint: Sint) -> Option<&Message>
         requires { vp < processors self.now.state }
-        ensures { option_copied result ≡ slice_get (queue_of self.now.state.queues vp sint) (length (queue_of self.now.state.queues vp sint) - 1) }
+        ensures { option_copied result
+            ≡ slice_get (queue_of self.now.state.queues vp sint) (length (queue_of self.now.state.queues vp sint) - 1) }
     {
         let count = self.queues.count(vp, sint);
         self.queues.message(vp, sint, count.saturating_sub(1))

@@ -11,7 +11,8 @@ use Rattle.text_base.specs.Streams.{Grows}
 -- the bytes read follow those at the front
 abbrev pub Refills : Option ℕ → Type 0 → ℕ → List ℕ → List ℕ → List ℕ → Type 0
 Refills None at_end room front bytes came = (came ≡ []) × (take (length front) bytes ≡ front)
-Refills (Some n) at_end room front bytes came = (length came ≡ n) × (n ≤ room) × (n ≡ 0 → 0 < room → at_end) × (take (length front + n) bytes ≡ front ++ came)
+Refills (Some n) at_end room front bytes came =
+    (length came ≡ n) × (n ≤ room) × (n ≡ 0 → 0 < room → at_end) × (take (length front + n) bytes ≡ front ++ came)
 
 -- one read: bytes were read, or the input is at its end
 abbrev pub Fills : Fill → Type 0 → Buffered → Buffered → List ℕ → Type 0
@@ -22,6 +23,9 @@ Fills fills.FlushFailed at_end old new came = (came ≡ []) × Grows old new cam
 
 -- the line among the buffered bytes
 abbrev pub Scans : Scan → Buffered → Buffered → Type 0
-Scans scans.Whole old new = (old.waiting ≡ new.line ++ 10 ∷ new.waiting) × IsOneLine new.line × (length new.line ≤ 640) × (new.budget ≡ old.budget) × (length new.waiting ≤ 65536)
-Scans scans.Long old new = IsOneLine (take 641 old.waiting) × (641 ≤ length old.waiting) × (length old.waiting ≤ 65536) × (new ≡ old)
+Scans scans.Whole old new =
+    (old.waiting ≡ new.line ++ 10 ∷ new.waiting) × IsOneLine new.line × (length new.line ≤ 640)
+    × (new.budget ≡ old.budget) × (length new.waiting ≤ 65536)
+Scans scans.Long old new =
+    IsOneLine (take 641 old.waiting) × (641 ≤ length old.waiting) × (length old.waiting ≤ 65536) × (new ≡ old)
 Scans scans.Short old new = IsOneLine old.waiting × (length old.waiting ≤ 640) × (new ≡ old)

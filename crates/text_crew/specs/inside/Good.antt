@@ -6,7 +6,8 @@ use Rattle.board_threads.specs.Judging.{is_bad_step, is_bad_raise}
 use Rattle.board_threads.specs.Sweeps.{is_absorb}
 use Rattle.text_crew.specs.Crew.{Crew, entries_of}
 
--- With all sections closed, the board is one of these, the sizes are within the limits, and each step is valid in a crew.
+-- With all sections closed, the board is one of these, the sizes are within the limits, and each step is valid in a
+-- crew.
 pub record IsGood (IsBoard : ℕ → ℕ → Type 0) (crew : Crew) : Type 0 where
   pub board : IsBoard crew.processors crew.pages
   pub few_actors : length crew.actors ≤ 15

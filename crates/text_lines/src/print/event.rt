@@ -80,7 +80,8 @@ fn put_open<S: Sink>(
     sint: u8,
     shape: PortShape,
 ) -> Result<(), S::Error>
-    ensures written { OnOk result (S.text out.new ≡ S.text out.old ++ spaced (event_fields (OpenPort port vp sint shape))) }
+    ensures written { OnOk result
+        (S.text out.new ≡ S.text out.old ++ spaced (event_fields (OpenPort port vp sint shape))) }
     ensures fits { IsEvent (OpenPort port vp sint shape) }
 {
     put_named(out, b"open", u64::from(port))?;
@@ -131,7 +132,8 @@ fn put_post<S: Sink>(
     kind: u32,
     payload: &PayloadBytes,
 ) -> Result<(), S::Error>
-    ensures written { OnOk result (S.text out.new ≡ S.text out.old ++ spaced (event_fields (Post port kind payload.now))) }
+    ensures written { OnOk result
+        (S.text out.new ≡ S.text out.old ++ spaced (event_fields (Post port kind payload.now))) }
     ensures fits { AtMostBytes 240 payload.now.items }
 {
     let bytes = payload.as_slice();

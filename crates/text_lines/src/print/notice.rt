@@ -51,7 +51,8 @@ fn put_message<const N: usize>(
     sint: Sint,
 ) -> Result<(), AllocError>
     requires { N ≤ 16 }
-    ensures { OnOk result (out.new.items ≡ out.old.items ++ (head.now ++ line_of (decimal ticket ∷ decimal vp ∷ decimal sint ∷ []))) }
+    ensures { OnOk result (out.new.items
+        ≡ out.old.items ++ (head.now ++ line_of (decimal ticket ∷ decimal vp ∷ decimal sint ∷ []))) }
 {
     let mut room = [0u8; ROOM];
     let at = text_before(&mut room, ROOM, b"\n");
@@ -74,7 +75,8 @@ fn put_numbers<const N: usize>(
     value: u64,
 ) -> Result<(), AllocError>
     requires { N ≤ 16 }
-    ensures { OnOk result (out.new.items ≡ out.old.items ++ (head.now ++ line_of (decimal vp ∷ decimal number ∷ decimal value ∷ []))) }
+    ensures { OnOk result (out.new.items
+        ≡ out.old.items ++ (head.now ++ line_of (decimal vp ∷ decimal number ∷ decimal value ∷ []))) }
 {
     let mut room = [0u8; ROOM];
     let at = text_before(&mut room, ROOM, b"\n");
@@ -116,7 +118,8 @@ fn put_request<const N: usize>(
     vector: u8,
 ) -> Result<(), AllocError>
     requires { N ≤ 16 }
-    ensures { OnOk result (out.new.items ≡ out.old.items ++ (head.now ++ line_of (decimal vp ∷ two_digits vector ∷ []))) }
+    ensures { OnOk result (out.new.items
+        ≡ out.old.items ++ (head.now ++ line_of (decimal vp ∷ two_digits vector ∷ []))) }
 {
     let mut room = [0u8; ROOM];
     let at = text_before(&mut room, ROOM, b"\n");

@@ -50,7 +50,8 @@ fn put_constant<const N: usize>(out: &mut Vec<u8>, text: &[u8; N]) -> Result<(),
 /// Appends the line of the vector that was taken.
 #[inline(always)]
 fn put_taken(out: &mut Vec<u8>, vector: u8) -> Result<(), AllocError>
-    ensures { OnOk result (out.new.items ≡ out.old.items ++ line_of (codes "=" ∷ codes "taken" ∷ two_digits vector ∷ [])) }
+    ensures { OnOk result (out.new.items
+        ≡ out.old.items ++ line_of (codes "=" ∷ codes "taken" ∷ two_digits vector ∷ [])) }
 {
     let [high, low] = digits_of(vector);
     let mut line = *b"= taken ..\n";
@@ -62,7 +63,8 @@ fn put_taken(out: &mut Vec<u8>, vector: u8) -> Result<(), AllocError>
 /// Appends the line of the ticket of an accepted message.
 #[inline(always)]
 fn put_accepted(out: &mut Vec<u8>, ticket: Ticket) -> Result<(), AllocError>
-    ensures { OnOk result (out.new.items ≡ out.old.items ++ line_of (codes "=" ∷ codes "accepted" ∷ decimal ticket ∷ [])) }
+    ensures { OnOk result (out.new.items
+        ≡ out.old.items ++ line_of (codes "=" ∷ codes "accepted" ∷ decimal ticket ∷ [])) }
 {
     let mut room = [0u8; ROOM];
     let at = text_before(&mut room, ROOM, b"\n");
@@ -74,7 +76,8 @@ fn put_accepted(out: &mut Vec<u8>, ticket: Ticket) -> Result<(), AllocError>
 /// Appends the line of the bytes that were loaded.
 #[inline(always)]
 fn put_loaded(out: &mut Vec<u8>, bytes: &Bytes8) -> Result<(), AllocError>
-    ensures { OnOk result (out.new.items ≡ out.old.items ++ line_of (codes "=" ∷ codes "bytes" ∷ bytes_text bytes.now.items ∷ [])) }
+    ensures { OnOk result (out.new.items
+        ≡ out.old.items ++ line_of (codes "=" ∷ codes "bytes" ∷ bytes_text bytes.now.items ∷ [])) }
 {
     let bytes = bytes.as_slice();
     if bytes.is_empty() {

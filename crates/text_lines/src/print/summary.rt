@@ -45,7 +45,8 @@ fn put_nexts(out: &mut Vec<u8>, summary: &Summary, processors: u8) -> Result<(),
 }
 
 fn put_next(out: &mut Vec<u8>, summary: &Summary, vp: Vp) -> Result<(), AllocError>
-    ensures { OnOk result (out.new.items ≡ out.old.items ++ text_of (next_lines vp (slice_index_or summary.now.values.nexts vp None))) }
+    ensures { OnOk result (out.new.items
+        ≡ out.old.items ++ text_of (next_lines vp (slice_index_or summary.now.values.nexts vp None))) }
 {
     put(out, b": next ")?;
     put_decimal(out, vp.number())?;
@@ -68,7 +69,8 @@ fn put_autos(out: &mut Vec<u8>, summary: &Summary, processors: u8) -> Result<(),
 
 fn put_auto(out: &mut Vec<u8>, summary: &Summary, number: u8) -> Result<(), AllocError>
     requires { number < 64 }
-    ensures { OnOk result (out.new.items ≡ out.old.items ++ text_of (auto_lines number (slice_index_or summary.now.values.autos number set.empty))) }
+    ensures { OnOk result (out.new.items
+        ≡ out.old.items ++ text_of (auto_lines number (slice_index_or summary.now.values.autos number set.empty))) }
 {
     match Vp::new(number) {
         Some(vp) => put_auto_line(out, summary, vp),
@@ -77,7 +79,8 @@ fn put_auto(out: &mut Vec<u8>, summary: &Summary, number: u8) -> Result<(), Allo
 }
 
 fn put_auto_line(out: &mut Vec<u8>, summary: &Summary, vp: Vp) -> Result<(), AllocError>
-    ensures { OnOk result (out.new.items ≡ out.old.items ++ text_of (auto_lines vp (slice_index_or summary.now.values.autos vp set.empty))) }
+    ensures { OnOk result (out.new.items
+        ≡ out.old.items ++ text_of (auto_lines vp (slice_index_or summary.now.values.autos vp set.empty))) }
 {
     let mut any = false;
     for above in 0..240 {
@@ -98,8 +101,12 @@ fn put_if_auto(
     any: bool,
 ) -> Result<bool, AllocError>
     requires { 16 ≤ number }
-    ensures begun { IfOk result (λ now. now ≡ (any || set.contains (slice_index_or summary.now.values.autos vp set.empty) number)) }
-    ensures written { OnOk result (out.new.items ≡ out.old.items ++ (if set.contains (slice_index_or summary.now.values.autos vp set.empty) number then auto_part vp number any else [])) }
+    ensures begun { IfOk result
+        (λ now. now ≡ (any || set.contains (slice_index_or summary.now.values.autos vp set.empty) number)) }
+    ensures written { OnOk result
+        (out.new.items ≡ out.old.items
+        ++ (if set.contains (slice_index_or summary.now.values.autos vp set.empty) number then auto_part vp number any
+        else [])) }
 {
     match Vector::new(number) {
         Some(vector) if summary.is_auto(vp, vector) => {
@@ -160,7 +167,8 @@ fn put_page(out: &mut Vec<u8>, page: u8, owner: Owner) -> Result<(), AllocError>
 }
 
 fn put_overlay(out: &mut Vec<u8>, page: u8, kind: &[u8], vp: Vp) -> Result<(), AllocError>
-    ensures { OnOk result (out.new.items ≡ out.old.items ++ text_of ((codes ":" ∷ codes "page" ∷ decimal page ∷ kind.now ∷ decimal vp ∷ []) ∷ [])) }
+    ensures { OnOk result (out.new.items
+        ≡ out.old.items ++ text_of ((codes ":" ∷ codes "page" ∷ decimal page ∷ kind.now ∷ decimal vp ∷ []) ∷ [])) }
 {
     put(out, b": page ")?;
     put_decimal(out, page)?;
@@ -175,7 +183,8 @@ fn put_overlay(out: &mut Vec<u8>, page: u8, kind: &[u8], vp: Vp) -> Result<(), A
 fn put_queues(out: &mut Vec<u8>, summary: &Summary, sources: u16) -> Result<(), AllocError>
     requires count { sources ≡ length summary.now.values.queued }
     requires bound { sources ≤ 1024 }
-    ensures { OnOk result (out.new.items ≡ out.old.items ++ text_of (numbered queue_lines 0 summary.now.values.queued)) }
+    ensures { OnOk result (out.new.items
+        ≡ out.old.items ++ text_of (numbered queue_lines 0 summary.now.values.queued)) }
 {
     for place in 0..sources {
         let (vp, sint) = ((place / 16) as u8, (place % 16) as u8);

@@ -62,7 +62,8 @@ within_limits f board = if may_open f board.1 then (if are_sizes board.0 board.1
 
 abbrev pub parse_board : Format → Fields → Option Board
 parse_board f [] = None
-parse_board f (word ∷ fields) = if bytes_eq word (codes "board") then option_and_then (within_limits f) (parse_opening fields) else None
+parse_board f (word ∷ fields) =
+    if bytes_eq word (codes "board") then option_and_then (within_limits f) (parse_opening fields) else None
 
 unfoldable pub board_at : Format → List ℕ → Option Board
 board_at f line = parse_board f (fields_of line)
@@ -85,7 +86,8 @@ begins_image f line = may_restore f && bytes_eq line image_title
 
 -- after the end of the image its board is there, and the history starts
 abbrev pub entered : Format → images.Stage → Stage
-entered f (images.Body s last lapics) = if has_ended (images.Body s last lapics) then Running f s 0 None else Image f (images.Body s last lapics)
+entered f (images.Body s last lapics) =
+    if has_ended (images.Body s last lapics) then Running f s 0 None else Image f (images.Body s last lapics)
 entered f stage = Image f stage
 
 -- the stage after a line that is not of an image, if the line is allowed here
@@ -97,12 +99,14 @@ follow Title line =
     else if bytes_eq line (spaced (title_fields Four)) then Some (Opening Four)
     else if bytes_eq line (spaced (title_fields Five)) then Some (Opening Five)
     else None
-follow (Opening f) line = if begins_image f line then Some (Image f images.Titled) else option_map (begun f) (board_at f line)
+follow (Opening f) line =
+    if begins_image f line then Some (Image f images.Titled) else option_map (begun f) (board_at f line)
 follow (Image f image) line = None
 follow (Running f s entries None) line =
     if bytes_eq line (spaced (end_fields f entries s.next_ticket)) then Some (Over entries)
     else option_map (performed f s entries) (entry_at f line)
-follow (Running f s entries (Some due)) line = if bytes_eq line (spaced (reply_fields due)) then Some (Running f s entries None) else None
+follow (Running f s entries (Some due)) line =
+    if bytes_eq line (spaced (reply_fields due)) then Some (Running f s entries None) else None
 follow (Over entries) line = None
 
 -- a line is allowed here and leads to the next stage
@@ -164,8 +168,10 @@ started stage = stage
 
 -- a line after the board line, or after the image
 abbrev pub Runs : Ran → Format → State → ℕ → Option Reply → State → ℕ → Option Reply → List ℕ → Type 0
-Runs ran.On f s entries due s' entries' due' line = follow (Running f s entries due) line ≡ Some (Running f s' entries' due')
-Runs ran.End f s entries due s' entries' due' line = (entries' ≡ entries) × (follow (Running f s entries due) line ≡ Some (Over entries))
+Runs ran.On f s entries due s' entries' due' line =
+    follow (Running f s entries due) line ≡ Some (Running f s' entries' due')
+Runs ran.End f s entries due s' entries' due' line =
+    (entries' ≡ entries) × (follow (Running f s entries due) line ≡ Some (Over entries))
 Runs ran.Wrong f s entries due s' entries' due' line = follow (Running f s entries due) line ≡ None
 Runs ran.Memory f s entries due s' entries' due' line = Unit {0}
 

@@ -7,4 +7,5 @@ use Rattle.bench_threads.proofs.workers.open_parts.Goals as goal
 pub returns-in-Ok-clause-actors : goal.returns-in-Ok-clause-actors
 returns-in-Ok-clause-actors c =
     let name = c.in-Ok.opened.0.name in
-    subst (λ (l : List Acting). All (λ (a : Acting). a.of ≡ name) l) (sym c.in-Ok.ensures.actors) (all-of name (range_with_len 0 c.args.count))
+    subst (λ (l : List Acting). All (λ (a : Acting). a.of ≡ name) l) (sym c.in-Ok.ensures.actors)
+    (all-of name (range_with_len 0 c.args.count))

@@ -12,5 +12,6 @@ pub returns-in-Some : goal.returns-in-Some
 returns-in-Some c =
     let performs = (rw c.in-Some.is at c.perform_event.ensures).1 in
     let item = event-item (fields_of c.args.line.now) performs.0 (ap parse_event (sym c.new.ensures) ∙ performs.1) in
-    subst (λ (r : Option Item). PassesItem Good r (Some c.args.board.now.state) (Some c.perform_event.new.board.state)) (sym item)
+    subst (λ (r : Option Item). PassesItem Good r (Some c.args.board.now.state)
+    (Some c.perform_event.new.board.state)) (sym item)
     (refl, ap (λ (o : Outcome). Some o.0) performs.2.step)

@@ -13,13 +13,18 @@ use Rattle.board_script.proofs.respond.take_line.Goals as goal
 
 pub returns-in-Ok : goal.returns-in-Ok
 returns-in-Ok c =
-    let as-is = as-it-is _ (λ reply made post. search rules) c.perform_event-performed.result _ _ _ _ c.perform_event-performed.ensures in
+    let as-is = as-it-is _ (λ reply made post. search rules) c.perform_event-performed.result _ _ _ _
+    c.perform_event-performed.ensures in
     let performs = rw c.in-Some.is at as-is in
     let event = performs.0 in
     let is = performs.2.step in
     let s = c.perform_event-performed.new.board.state in
     let item = event-item (fields_of c.args.line.now) event (ap parse_event (sym c.new.ensures) ∙ performs.1) in
-    let told = ap (λ (ns : List Notice). outcome_text (s, c.in-Some.reply, ns)) c.as_slice.ensures.value ∙ ap (λ (o : Outcome). outcome_text o) is in
-    let written = c.in-Ok.ensures ∙ ap (λ (out : List ℕ). out ++ outcome_text (s, c.in-Some.reply, c.as_slice.result.now)) c.requires ∙ told in
-    subst (λ (r : Option Item). AnswersItem Good r (Some c.args.board.now.state) (Some s) c.put_outcome.new.out.items) (sym item)
+    let told = ap (λ (ns : List Notice). outcome_text (s, c.in-Some.reply, ns)) c.as_slice.ensures.value
+    ∙ ap (λ (o : Outcome). outcome_text o) is in
+    let written =
+    c.in-Ok.ensures ∙ ap (λ (out : List ℕ). out ++ outcome_text (s, c.in-Some.reply, c.as_slice.result.now))
+    c.requires ∙ told in
+    subst (λ (r : Option Item). AnswersItem Good r (Some c.args.board.now.state) (Some s) c.put_outcome.new.out.items)
+    (sym item)
     ((refl, ap (λ (o : Outcome). Some o.0) is), written)

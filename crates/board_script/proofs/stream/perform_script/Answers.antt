@@ -20,12 +20,18 @@ returns-in_default-clause-text g c = replays-nothing _ _ _
 pub returns-clause-text : goal.returns-clause-text
 returns-clause-text g c =
     let same = c.is_some.ensures ∙ is-open c.drive-end.new.judge.board in
-    let concludes = subst (λ (opened : Bool). Concludes (conclusion c.drive-end.result opened) c.conclude.result (g.W.Write.contents c.drive-end.new.writer)
+    let concludes =
+    subst (λ (opened : Bool). Concludes (conclusion c.drive-end.result opened) c.conclude.result
+    (g.W.Write.contents c.drive-end.new.writer)
     (g.W.Write.contents c.conclude.new.writer)) same c.conclude.ensures in
     replays-concluded seen _ _ _ refl c.drive-end.result c.conclude.result _ _ _ _ _ c.drive-end.ensures.lines concludes
 
 pub returns-clause-limit : goal.returns-clause-limit
-returns-clause-limit g c = concluded-within c.drive-end.result c.is_some.result c.conclude.result _ _ _ _ c.conclude.ensures c.drive-end.ensures.limit
+returns-clause-limit g c =
+    concluded-within c.drive-end.result c.is_some.result c.conclude.result _ _ _ _ c.conclude.ensures
+    c.drive-end.ensures.limit
 
 pub returns-clause-near : goal.returns-clause-near
-returns-clause-near g c = concluded-near c.drive-end.result c.is_some.result c.conclude.result _ _ _ _ c.conclude.ensures c.drive-end.ensures.near
+returns-clause-near g c =
+    concluded-near c.drive-end.result c.is_some.result c.conclude.result _ _ _ _ c.conclude.ensures
+    c.drive-end.ensures.near

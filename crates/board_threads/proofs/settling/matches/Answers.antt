@@ -19,9 +19,12 @@ loop-entry-preserved c =
       | then-entry-actor+else-next-calls+else-ne+else-ne-2 w ↦ (
         omega (arith, w.next-is, w.if-next-calls.false),
         (let call = w.index-calls-next.result in
-            let event : c.entry-item.result.event ≡ call.0 = same-event c.entry-item.result.event call.0 (holds _ (sym w.ne.ensures ∙ w.if-ne.false)) in
+            let event : c.entry-item.result.event ≡ call.0 =
+            same-event c.entry-item.result.event call.0 (holds _ (sym w.ne.ensures ∙ w.if-ne.false)) in
             let reply : c.entry-item.result.reply ≡ call.1 = search rules in
-            let longer = ap (λ n. take n calls) w.next-is ∙ taken-on calls c.loop-entry.next call (omega (arith, w.if-next-calls.false)) w.index-calls-next.is in
+            let longer =
+            ap (λ n. take n calls) w.next-is
+            ∙ taken-on calls c.loop-entry.next call (omega (arith, w.if-next-calls.false)) w.index-calls-next.is in
             matched _ _ _ _ _ c.entry-item.result call.0 call.1 more was w.if-entry-actor.true longer event reply),
       )
       | else-entry-actor w ↦ (

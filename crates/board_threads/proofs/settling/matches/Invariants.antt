@@ -3,4 +3,5 @@ use Rattle.board_threads.specs.History.{calls_by}
 use Rattle.board_threads.proofs.settling.matches.Given as goal
 
 abbrev pub invariant-loop-entry : goal.invariant-loop-entry
-invariant-loop-entry l = (l.next ≤ length l.calls) × (calls_by l.actor.number (take l.entry-index l.history) ≡ take l.next l.calls)
+invariant-loop-entry l =
+    (l.next ≤ length l.calls) × (calls_by l.actor.number (take l.entry-index l.history) ≡ take l.next l.calls)

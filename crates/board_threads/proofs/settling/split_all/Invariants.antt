@@ -7,5 +7,6 @@ use Rattle.board_threads.proofs.settling.split_all.Given as goal
 
 abbrev pub invariant-loop-actor : goal.invariant-loop-actor
 invariant-loop-actor l =
-    (l.sweepers.items ≡ map (λ (a : Acting). token a.of a.actions) l.yielded) × (map calls_given l.ended.items ≡ map calls_held l.yielded)
+    (l.sweepers.items ≡ map (λ (a : Acting). token a.of a.actions) l.yielded)
+    × (map calls_given l.ended.items ≡ map calls_held l.yielded)
     × All (λ (a : Acting). a.actions ≡ sweeps_of a.calls) l.yielded

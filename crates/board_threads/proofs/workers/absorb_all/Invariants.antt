@@ -6,5 +6,6 @@ use Rattle.board_threads.proofs.workers.absorb_all.Given as goal
 
 abbrev pub invariant-loop-place : goal.invariant-loop-place
 invariant-loop-place g l =
-    (l.actor.of ≡ l.initial.actor.of) × (l.actor.number ≡ l.initial.actor.number) × (more : List Call) × (l.actor.calls ≡ l.initial.actor.calls ++ more)
+    (l.actor.of ≡ l.initial.actor.of) × (l.actor.number ≡ l.initial.actor.number) × (more : List Call)
+    × (l.actor.calls ≡ l.initial.actor.calls ++ more)
     × AreSteps (map last_step (range_with_len 0 l.place)) more

@@ -13,6 +13,8 @@ settle-requires-clause-raises g c κs within = λ k d lt. all-only-raise _ _ _ _
 
 pub returns : goal.returns
 returns g c =
-    finishes g.S.Origin.start c.args.board.name c.args.setup.now c.args.scripts.now c.args.worked.actors.items c.args.worked.lines.items c.args.worked.raised c.requires.worked
-    c.in_ok-ended.ended c.in_ok-ended.ensures.settled c.in_ok-ended.ensures.actors c.args.board.processors c.requires.processors c.in_ok-ended.ensures.raises
+    finishes g.S.Origin.start c.args.board.name c.args.setup.now c.args.scripts.now c.args.worked.actors.items
+    c.args.worked.lines.items c.args.worked.raised c.requires.worked
+    c.in_ok-ended.ended c.in_ok-ended.ensures.settled c.in_ok-ended.ensures.actors c.args.board.processors
+    c.requires.processors c.in_ok-ended.ensures.raises
     c.place.result c.place.ensures.ended c.place.ensures.raised c.place.ensures.placed c.place.ensures.clear

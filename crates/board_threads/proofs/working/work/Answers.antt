@@ -13,18 +13,26 @@ run_all-requires-clause-new_actors g c κs within =
     let name = c.args.board.now.name in
     let n = vec_len c.args.scripts.now.actors in
     let parts = cut name c.args.actors.items n (n + 1) c.requires.actors (omega arith) in
-    λ k d lt. subst (All (IsNewActor name)) (sym (c.in-Ok.ensures.tail ∙ parts.1)) (all-new name (range_with_len 1 n)) k d lt
+    λ k d lt. subst (All (IsNewActor name)) (sym (c.in-Ok.ensures.tail ∙ parts.1))
+    (all-new name (range_with_len 1 n)) k d lt
 
 pub run_all-requires-clause-each_actor : goal.run_all-requires-clause-each_actor
 run_all-requires-clause-each_actor g c κs within =
     let name = c.args.board.now.name in
     let n = vec_len c.args.scripts.now.actors in
-    omega (arith, c.in-Ok.ensures.tail_len, c.args.actors.ok.0, ap (λ l. length l) c.requires.actors, length-map-range_with_len (new_actor name) 0 (n + 1))
+    omega (
+      arith,
+      c.in-Ok.ensures.tail_len,
+      c.args.actors.ok.0,
+      ap (λ l. length l) c.requires.actors,
+      length-map-range_with_len (new_actor name) 0 (n + 1),
+    )
 
 pub run_all-requires-clause-there : goal.run_all-requires-clause-there
 run_all-requires-clause-there g c κs within =
     let all = all-there c.args.setup.now c.args.scripts.now c.requires.step in
-    subst (λ n. All (λ (s : Vec (ℕ × ℕ) Global). IsThere n s.items) c.args.scripts.now.lines.items) (sym c.requires.board) all
+    subst (λ n. All (λ (s : Vec (ℕ × ℕ) Global). IsThere n s.items) c.args.scripts.now.lines.items)
+    (sym c.requires.board) all
 
 pub returns : goal.returns
 returns g c =
@@ -34,8 +42,10 @@ returns g c =
     let parts = cut name c.args.actors.items n (n + 1) c.requires.actors (omega arith) in
     let main = c.in_ok-main-2.main in
     let ran = c.in_ok-others.ensures in
-    let only : (c.pop.new.self.items ≡ []) × (c.in-Some.main ≡ new_actor name 0) = single _ _ _ (sym c.in-Some.ensures.items ∙ c.in-Ok.ensures.items ∙ parts.0) in
-    let all : c.append.new.self.items ≡ (c.pop.new.self.items ++ main ∷ []) ++ c.in_ok-others.others.items = search rules in
+    let only : (c.pop.new.self.items ≡ []) × (c.in-Some.main ≡ new_actor name 0) =
+    single _ _ _ (sym c.in-Some.ensures.items ∙ c.in-Ok.ensures.items ∙ parts.0) in
+    let all : c.append.new.self.items ≡ (c.pop.new.self.items ++ main ∷ []) ++ c.in_ok-others.others.items =
+    search rules in
     let more = c.in_ok-main-2.ensures.calls in
     record {
       worked = record {
@@ -54,7 +64,8 @@ returns g c =
           begins = search rules;
           ends = subst (λ k. AreSteps (last_steps k) more.0) c.requires.board more.2;
         };
-        numbers = ran.numbers ∙ ap (map (λ (a : Acting). a.number)) (c.in-Ok.ensures.tail ∙ parts.1) ∙ new-numbers name (range_with_len 1 n)
+        numbers = ran.numbers ∙ ap (map (λ (a : Acting). a.number)) (c.in-Ok.ensures.tail ∙ parts.1)
+            ∙ new-numbers name (range_with_len 1 n)
             ∙ ap (λ k. range_with_len 1 k) (omega (arith, scripts.ok.0));
         acted = ran.acted;
         did_raise = ran.raised;

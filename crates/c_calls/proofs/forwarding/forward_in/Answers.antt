@@ -7,7 +7,8 @@ pub returns : goal.returns
 returns c = inl record {
   on = c.in-Some.ensures.some.1;
   what = c.forward.result;
-  forwards = subst (λ p. IsForwarded (state_in c.args.board.now) p (state_in c.forward.new.self) c.forward.result) c.in-Some.ensures.some.0 c.forward.ensures.forwarded;
+  forwards = subst (λ p. IsForwarded (state_in c.args.board.now) p (state_in c.forward.new.self) c.forward.result)
+      c.in-Some.ensures.some.0 c.forward.ensures.forwarded;
   encoded = c.encoded.ensures;
   replied = c.reply_to_c-2.ensures;
   notices = c.forward.ensures.notices;

@@ -11,6 +11,7 @@ invariant-loop-vp l =
       as_many : length l.nexts ≡ length l.fn.nexts;
       before : (p : ℕ) → p < l.vp → vector_in l.nexts p ≡ next_vector_of l.fn.handle.board p;
       later : (p : ℕ) → l.vp ≤ p → vector_in l.nexts p ≡ vector_in l.fn.nexts p;
-      changed : (p : ℕ) → p < l.vp → bit_at l.changed p ≡ 1 ↔ (vector_in l.fn.nexts p ≢ next_vector_of l.fn.handle.board p);
+      changed : (p : ℕ) → p < l.vp
+          → bit_at l.changed p ≡ 1 ↔ (vector_in l.fn.nexts p ≢ next_vector_of l.fn.handle.board p);
       clear : (i : ℕ) → l.vp ≤ i → i < 64 → bit_at l.changed i ≡ 0;
     }

@@ -15,5 +15,15 @@ returns-clause-legal c =
     let beginning = board_text h.processors (Some h.pages) h.first_ticket in
     trace-is (format_for Two h.entries) beginning (start_of h) h.entries
     (begins-for Two h.entries beginning (start_of h)
-    (inl (record { processors = h.processors; pages = Some h.pages; ticket = h.first_ticket; form = refl; sizes = e.sizes; given = given; line = refl; state = refl })))
-    (subst (λ (entries : List Entry). All (IsEntry (format_for Two entries)) entries) (c.as_slice.ensures.value ∙ e.entries) c.in_ok-put_trace.ensures.fits) e.legal
+    (inl (record {
+      processors = h.processors;
+      pages = Some h.pages;
+      ticket = h.first_ticket;
+      form = refl;
+      sizes = e.sizes;
+      given = given;
+      line = refl;
+      state = refl;
+    })))
+    (subst (λ (entries : List Entry). All (IsEntry (format_for Two entries)) entries)
+    (c.as_slice.ensures.value ∙ e.entries) c.in_ok-put_trace.ensures.fits) e.legal

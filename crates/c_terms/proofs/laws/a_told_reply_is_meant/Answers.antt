@@ -10,12 +10,15 @@ use Rattle.c_terms.specs.Events.{bytes_from_c}
 use Rattle.c_terms.specs.Replies.{IsReplyInRange, padded, refusal_from_c, reply_to_c, reply_from_c}
 use Rattle.c_terms.proofs.laws.a_told_reply_is_meant.Goals as goal
 
-padded-meant : (bytes : ArrayVec ℕ) → length bytes.items ≤ 8 → bytes_from_c 8 (padded bytes.items) (length bytes.items) ≡ Some bytes
+padded-meant : (bytes : ArrayVec ℕ) → length bytes.items ≤ 8
+    → bytes_from_c 8 (padded bytes.items) (length bytes.items) ≡ Some bytes
 padded-meant bytes bound =
     let zeros = replicate (8 - length bytes.items) 0 in
     let whole = padded bytes.items in
-    ap (λ (b : Bool). cond (b || nat_lt (length whole) (length bytes.items)) None (Some (record { items = take (length bytes.items) whole }))) (le-ltb 8 (length bytes.items) bound)
-    ∙ ap (λ (b : Bool). cond b None (Some (record { items = take (length bytes.items) whole }))) (le-ltb (length whole) (length bytes.items) (omega (arith, length-append bytes.items zeros)))
+    ap (λ (b : Bool). cond (b || nat_lt (length whole) (length bytes.items)) None
+    (Some (record { items = take (length bytes.items) whole }))) (le-ltb 8 (length bytes.items) bound)
+    ∙ ap (λ (b : Bool). cond b None (Some (record { items = take (length bytes.items) whole })))
+    (le-ltb (length whole) (length bytes.items) (omega (arith, length-append bytes.items zeros)))
     ∙ ap (λ (xs : List ℕ). Some (record { items = xs })) (take_at bytes.items zeros (length bytes.items) refl)
 
 refusal-meant : (refusal : Refusal) → refusal_from_c (refusal_number refusal) ≡ Some refusal
@@ -41,7 +44,8 @@ told-meant : (reply : Reply) (notices : ℕ) → IsReplyInRange reply → reply_
 told-meant Done n h = refl
 told-meant (Value value) n h = refl
 told-meant (Bytes bytes) n h = ap (option_map Bytes) (padded-meant bytes h)
-told-meant (Taken (Some vector)) n h = ap (λ (b : Bool). option_map (λ (v : ℕ). Taken (Some v)) (cond b None (Some vector))) (le-ltb vector 16 h)
+told-meant (Taken (Some vector)) n h =
+    ap (λ (b : Bool). option_map (λ (v : ℕ). Taken (Some v)) (cond b None (Some vector))) (le-ltb vector 16 h)
 told-meant (Taken None) n h = refl
 told-meant (Accepted ticket) n h = refl
 told-meant FlagWasClear n h = refl

@@ -5,13 +5,16 @@ use Rattle.std.proofs.lemmas.Nat.Bits.{bit_at_set_same, bit_at_set_other, bit_at
 use Rattle.gpa_space.proofs.candidates.with_overlay.Goals as goal
 
 pub returns-then-is_mapped-clause-here : goal.returns-then-is_mapped-clause-here
-returns-then-is_mapped-clause-here c = ap (λ n. n == 1) (bit_at_set_same w128 c.args.word c.args.overlay c.requires) ∙ sym c.if-is_mapped.true
+returns-then-is_mapped-clause-here c =
+    ap (λ n. n == 1) (bit_at_set_same w128 c.args.word c.args.overlay c.requires) ∙ sym c.if-is_mapped.true
 
 pub returns-then-is_mapped-clause-others : goal.returns-then-is_mapped-clause-others
 returns-then-is_mapped-clause-others c i low other = bit_at_set_other w128 c.args.word c.args.overlay c.requires i other
 
 pub returns-else-is_mapped-clause-here : goal.returns-else-is_mapped-clause-here
-returns-else-is_mapped-clause-here c = ap (λ n. n == 1) (bit_at_clear_same w128 c.args.word c.args.overlay c.requires) ∙ sym c.if-is_mapped.false
+returns-else-is_mapped-clause-here c =
+    ap (λ n. n == 1) (bit_at_clear_same w128 c.args.word c.args.overlay c.requires) ∙ sym c.if-is_mapped.false
 
 pub returns-else-is_mapped-clause-others : goal.returns-else-is_mapped-clause-others
-returns-else-is_mapped-clause-others c i low other = bit_at_clear_other w128 c.args.word c.args.overlay c.requires i low other
+returns-else-is_mapped-clause-others c i low other =
+    bit_at_clear_other w128 c.args.word c.args.overlay c.requires i low other

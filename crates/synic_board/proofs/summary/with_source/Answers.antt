@@ -9,4 +9,6 @@ returns-clause-here c =
     ∙ bit_at_set_same w16 c.args.word c.number.result c.number.ensures.range
 
 pub returns-clause-others : goal.returns-clause-others
-returns-clause-others c i low other = bit_at_set_other w16 c.args.word c.number.result c.number.ensures.range i (λ same. other (same ∙ c.number.ensures.value))
+returns-clause-others c i low other =
+    bit_at_set_other w16 c.args.word c.number.result c.number.ensures.range i
+    (λ same. other (same ∙ c.number.ensures.value))

@@ -16,4 +16,5 @@ returns-then-text-i g c = go (bytes_eq (take g.row.N c.args.text.now) c.args.wor
 pub returns : goal.returns
 returns g c =
     let whole : c.loop-i.i ≡ g.row.N = omega (arith, c.loop-i.invariant.0, c.loop-i.auto.i-end, c.loop-i-test.false) in
-    sym ((bytes_eq-Decides _ _).1 (rw whole at c.loop-i.invariant.1 ∙ take_all g.row.N c.args.word.now (omega (arith, c.told-word))))
+    sym ((bytes_eq-Decides _ _).1
+    (rw whole at c.loop-i.invariant.1 ∙ take_all g.row.N c.args.word.now (omega (arith, c.told-word))))

@@ -22,7 +22,8 @@ loop-rest-preserved c =
       omega (arith, three, begins),
       c.text_before-start.array_long,
       subst (λ (k : ℕ). rest < 10 ^ k) turns fewer.1,
-      ap (digits_onto (44 + (next + 20 - c.args.at)) 10 false rest) written ∙ ap (λ (k : ℕ). digits_onto k 10 false rest after) (sym turns') ∙ sym step ∙ l.invariant.4,
+      ap (digits_onto (44 + (next + 20 - c.args.at)) 10 false rest) written
+          ∙ ap (λ (k : ℕ). digits_onto k 10 false rest after) (sym turns') ∙ sym step ∙ l.invariant.4,
     )
 
 pub text_before-requires : goal.text_before-requires
@@ -44,7 +45,8 @@ returns-then-rest-ge10-clause-written c =
     let left : ℕ = l.start + 20 - c.args.at in
     c.text_before.ensures.written
     ∙ ap (λ (pair : List ℕ). pair ++ drop l.start l.room) c.decimal_pair-then-rest-ge10.ensures
-    ∙ sym (decimal-last_two (44 + left) l.rest (drop l.start l.room) (omega arith) c.if-rest-ge10.true c.loop-rest-test.false)
+    ∙ sym (decimal-last_two (44 + left) l.rest (drop l.start l.room)
+    (omega arith) c.if-rest-ge10.true c.loop-rest-test.false)
     ∙ l.invariant.4
     ∙ decimal-whole c.args.n (drop c.args.at c.args.room.now)
 

@@ -35,25 +35,30 @@ module _ (text : List ℕ) (at : ℕ) (fits : at + 16 ≤ length text) where
       record {
         bound = run_in_chunk_le (λ x. eqb x 10) text at 16 r 0 fits is;
         before = λ k low high. no-feed k (run_in_chunk_fails (λ x. eqb x 10) text at 16 r 0 fits is k low high);
-        feed = λ less. eqb-true (get_or text (at + r) 0) 10 (run_in_chunk_stops (λ x. eqb x 10) text at 16 r 0 fits is less);
+        feed = λ less. eqb-true (get_or text (at + r) 0) 10
+            (run_in_chunk_stops (λ x. eqb x 10) text at 16 r 0 fits is less);
       }
 
 pub returns-then-feeds-eq0-clause-before : goal.returns-then-feeds-eq0-clause-before
 returns-then-feeds-eq0-clause-before c =
-    let same = bitmask_splat w8 eqb (chunk c.args.at 16 c.args.text.now) 16 10 (length-chunk c.args.at 16 c.args.text.now c.requires) (omega arith) in
+    let same = bitmask_splat w8 eqb (chunk c.args.at 16 c.args.text.now) 16 10
+    (length-chunk c.args.at 16 c.args.text.now c.requires) (omega arith) in
     none c.args.text.now c.args.at c.requires (sym same ∙ c.if-feeds-eq0.true)
 
 pub returns-else-feeds-eq0-clause-bound : goal.returns-else-feeds-eq0-clause-bound
 returns-else-feeds-eq0-clause-bound c =
-    let same = bitmask_splat w8 eqb (chunk c.args.at 16 c.args.text.now) 16 10 (length-chunk c.args.at 16 c.args.text.now c.requires) (omega arith) in
+    let same = bitmask_splat w8 eqb (chunk c.args.at 16 c.args.text.now) 16 10
+    (length-chunk c.args.at 16 c.args.text.now c.requires) (omega arith) in
     rw same (found c.args.text.now c.args.at c.requires (λ e. c.if-feeds-eq0.false (same ∙ e))).bound
 
 pub returns-else-feeds-eq0-clause-before : goal.returns-else-feeds-eq0-clause-before
 returns-else-feeds-eq0-clause-before c =
-    let same = bitmask_splat w8 eqb (chunk c.args.at 16 c.args.text.now) 16 10 (length-chunk c.args.at 16 c.args.text.now c.requires) (omega arith) in
+    let same = bitmask_splat w8 eqb (chunk c.args.at 16 c.args.text.now) 16 10
+    (length-chunk c.args.at 16 c.args.text.now c.requires) (omega arith) in
     rw same (found c.args.text.now c.args.at c.requires (λ e. c.if-feeds-eq0.false (same ∙ e))).before
 
 pub returns-else-feeds-eq0-clause-feed : goal.returns-else-feeds-eq0-clause-feed
 returns-else-feeds-eq0-clause-feed c =
-    let same = bitmask_splat w8 eqb (chunk c.args.at 16 c.args.text.now) 16 10 (length-chunk c.args.at 16 c.args.text.now c.requires) (omega arith) in
+    let same = bitmask_splat w8 eqb (chunk c.args.at 16 c.args.text.now) 16 10
+    (length-chunk c.args.at 16 c.args.text.now c.requires) (omega arith) in
     rw same (found c.args.text.now c.args.at c.requires (λ e. c.if-feeds-eq0.false (same ∙ e))).feed

@@ -15,7 +15,8 @@ returns c =
     let values = c.values_of-values.result in
     let is : values ≡ map lane_value digits = c.values_of-values.ensures in
     let wide : length values ≡ 16 = ap length is ∙ length-map digits lane_value ∙ long in
-    let none : none_is_other values ≡ 0 = sym (bitmask_splat w8 eqb values 16 255 wide (omega arith)) ∙ c.if-values-ne0.false in
+    let none : none_is_other values ≡ 0 =
+    sym (bitmask_splat w8 eqb values 16 255 wide (omega arith)) ∙ c.if-values-ne0.false in
     let read = spelled-pairs 8 digits long c.requires (rw is at none) in
     let order : pick_l 0 (values ++ values) (range_with_len 0 16) ≡ map lane_value digits =
     pick_l_left 0 values values 16 (range_with_len 0 16) wide tt ∙ pick_l_whole 0 values 16 wide ∙ is in

@@ -39,5 +39,8 @@ loop-at-preserved g c =
     let at = c.loop-at.at in
     let long = length-drop at xs in
     let whole = take_all (length xs - at) (drop at xs) (omega arith) in
-    let bound : c.in-Ok.n ≤ length (drop at xs) = rw whole at c.in-Ok.ensures.bound in
-    (omega arith, rw (take-add at c.in-Ok.n xs) (Appends-trans _ _ _ _ _ c.loop-at.invariant.1 (rw whole at c.in-Ok.ensures.bytes)))
+    let bound : c.in-Ok.n ≤ length (drop at xs) = rw whole at c.in-Ok.ensures.bound in (
+      omega arith,
+      rw (take-add at c.in-Ok.n xs)
+          (Appends-trans _ _ _ _ _ c.loop-at.invariant.1 (rw whole at c.in-Ok.ensures.bytes)),
+    )

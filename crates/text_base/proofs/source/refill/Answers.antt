@@ -15,6 +15,7 @@ returns-in-Ok-clause-bytes g c =
         sym e.bound.1,
         bound,
         (λ zero some. e.bytes.1 zero (omega (arith, long))),
-        rw f.after (refill-bytes c.args.bytes.now c.read.new.buf c.args.at c.args.end c.args.room c.in-Ok.n c.requires.range c.requires.within c.requires.fits long bound),
+        rw f.after (refill-bytes c.args.bytes.now c.read.new.buf c.args.at c.args.end c.args.room c.in-Ok.n
+            c.requires.range c.requires.within c.requires.fits long bound),
       ),
     )

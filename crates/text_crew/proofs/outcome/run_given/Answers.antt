@@ -41,6 +41,9 @@ returns-in-Ok-run_crew_on g c =
       raises = e.raises;
       clear = e.clear;
     } in
-    let after = subst (λ (t : List ℕ). IsTraced Three t c.put_given.result ended c.args.out.now.items out) (c.as_slice.ensures.value ∙ text) c.put_given.ensures in
-    let was : IsTraced Three (image b) c.put_given.result ended [] out = subst (λ (old : List ℕ). IsTraced Three (image b) c.put_given.result ended old out) c.requires.empty after in
-    prepared (Some b) Three (image b) b (crew_of s) c.put_given.result ended out is (inr (refl, c.image_of.ensures.image)) e.settled.leads was (λ t. t)
+    let after = subst (λ (t : List ℕ). IsTraced Three t c.put_given.result ended c.args.out.now.items out)
+    (c.as_slice.ensures.value ∙ text) c.put_given.ensures in
+    let was : IsTraced Three (image b) c.put_given.result ended [] out =
+    subst (λ (old : List ℕ). IsTraced Three (image b) c.put_given.result ended old out) c.requires.empty after in
+    prepared (Some b) Three (image b) b (crew_of s) c.put_given.result ended out is
+    (inr (refl, c.image_of.ensures.image)) e.settled.leads was (λ t. t)

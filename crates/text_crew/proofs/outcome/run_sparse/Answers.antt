@@ -18,7 +18,8 @@ pub outcome_of-requires-clause-size : goal.outcome_of-requires-clause-size
 outcome_of-requires-clause-size g c =
     let s = c.args.script.now in
     let sizes = script-sized None s c.requires.good in
-    let count : s.setup.processors ≡ processors c.in-Ok.board.state = one-sparse s.setup.processors s.setup.first_ticket c.in-Ok.board.state c.in-Ok.ensures in
+    let count : s.setup.processors ≡ processors c.in-Ok.board.state =
+    one-sparse s.setup.processors s.setup.first_ticket c.in-Ok.board.state c.in-Ok.ensures in
     λ bad. c.run_crew_on.ensures.size.0 (c.in-Err.is ∙ ap Err bad) (record { board = count; sizes = sizes })
 
 pub outcome_of-requires-clause-step : goal.outcome_of-requires-clause-step
@@ -45,7 +46,9 @@ returns-in-Ok-run_crew_on g c =
       raises = e.raises;
       clear = e.clear;
     } in
-    let was : IsTraced Four text c.put_sparse.result ended [] out = subst (λ (old : List ℕ). IsTraced Four text c.put_sparse.result ended old out) c.requires.empty c.put_sparse.ensures.traced in
+    let was : IsTraced Four text c.put_sparse.result ended [] out =
+    subst (λ (old : List ℕ). IsTraced Four text c.put_sparse.result ended old out) c.requires.empty
+    c.put_sparse.ensures.traced in
     prepared None Four text start (crew_of s) c.put_sparse.result ended out is
     (inl (record {
       processors = s.setup.processors;
@@ -57,4 +60,5 @@ returns-in-Ok-run_crew_on g c =
       line = refl;
       state = refl;
     }))
-    (e.settled.leads ∙ ap (λ (t : State). leads_to t ended.history.items) same) was (opened-sparse (crew_of s) out c.requires.sparse)
+    (e.settled.leads ∙ ap (λ (t : State). leads_to t ended.history.items) same) was
+    (opened-sparse (crew_of s) out c.requires.sparse)

@@ -14,12 +14,15 @@ use Rattle.text_crew.proofs.Traced.{prepared, opened-whole}
 use Rattle.text_crew.proofs.outcome.run_whole.Goals as goal
 
 pub outcome_of-requires-clause-size : goal.outcome_of-requires-clause-size
-outcome_of-requires-clause-size g c = λ bad. c.run_crew.ensures.size.0 (c.in-Err.is ∙ ap Err bad) (sized c.args.script.now c.requires.good (some-page _ c.requires.pages))
+outcome_of-requires-clause-size g c =
+    λ bad. c.run_crew.ensures.size.0 (c.in-Err.is ∙ ap Err bad)
+    (sized c.args.script.now c.requires.good (some-page _ c.requires.pages))
 
 pub outcome_of-requires-clause-step : goal.outcome_of-requires-clause-step
 outcome_of-requires-clause-step g c =
     let s = c.args.script.now in
-    λ bad. both_ways (has_bad_step s.setup s.scripts) (none-bad None s c.requires.good) (c.run_crew.ensures.step.0 (c.in-Err.is ∙ ap Err bad)).1
+    λ bad. both_ways (has_bad_step s.setup s.scripts) (none-bad None s c.requires.good)
+    (c.run_crew.ensures.step.0 (c.in-Err.is ∙ ap Err bad)).1
 
 pub returns-in-Ok : goal.returns-in-Ok
 returns-in-Ok g c =
@@ -39,7 +42,9 @@ returns-in-Ok g c =
       raises = e.raises;
       clear = e.clear;
     } in
-    let was : IsTraced Two text c.put_opened.result ended [] out = subst (λ (old : List ℕ). IsTraced Two text c.put_opened.result ended old out) c.requires.empty c.put_opened.ensures.traced in
+    let was : IsTraced Two text c.put_opened.result ended [] out =
+    subst (λ (old : List ℕ). IsTraced Two text c.put_opened.result ended old out) c.requires.empty
+    c.put_opened.ensures.traced in
     prepared None Two text start (crew_of s) c.put_opened.result ended out is
     (inl (record {
       processors = s.setup.processors;

@@ -9,4 +9,5 @@ pub run_given-requires-clause-good : goal.run_given-requires-clause-good
 run_given-requires-clause-good g c =
     let closed : crew_of c.close.new.self ≡ finished (crew_of c.args.script.now) = search rules in
     let on : state_in c.args.board ≡ Some c.in-Some.board.state = ap state_in c.in-Some.is in
-    λ κs lives. subst (λ (s : Option State). IsGoodOn s (crew_of c.close.new.self)) on (subst (IsGoodOn (state_in c.args.board)) (sym closed) c.requires.good)
+    λ κs lives. subst (λ (s : Option State). IsGoodOn s (crew_of c.close.new.self)) on
+    (subst (IsGoodOn (state_in c.args.board)) (sym closed) c.requires.good)

@@ -13,10 +13,15 @@ returns-then-not-close g c =
 pub returns-then-not-close-2 : goal.returns-then-not-close-2
 returns-then-not-close-2 g c =
     let s = c.close-in-Done.ensures in
-    let ready : Report (state_in c.args.board) (finished (crew_of c.args.script)) Done c.prepare.new.out.items = search rules in
+    let ready : Report (state_in c.args.board) (finished (crew_of c.args.script)) Done c.prepare.new.out.items =
+    search rules in
     let whole : c.prepare.new.out.items ≡ s.0 ++ s.1 = search rules in
     record {
       sent = s.0;
-      is = record { end = Done; unsent = s.1; text = subst (Report (state_in c.args.board) (finished (crew_of c.args.script)) Done) whole ready };
+      is = record {
+        end = Done;
+        unsent = s.1;
+        text = subst (Report (state_in c.args.board) (finished (crew_of c.args.script)) Done) whole ready;
+      };
       appended = s.2;
     }

@@ -23,7 +23,8 @@ run-requires-clause-good g c =
     let d = c.in-Last.ensures.lines.read in
     let board = state_in c.args.board in
     let begins = subst (AllGood board) (sym c.on.ensures.value) (first-good board c.on.ensures.bound) in
-    let good : IsGoodOn board (finished (crew_of c.in-Some.script)) = subst (AllGood board) (ap seen (sym d.ends.1) ∙ ap optional_crew c.in-Some.is)
+    let good : IsGoodOn board (finished (crew_of c.in-Some.script)) =
+    subst (AllGood board) (ap seen (sym d.ends.1) ∙ ap optional_crew c.in-Some.is)
     (all-good board seen _ d.state d.lines _ begins d.follows) in
     search (rules, good)
 
@@ -33,58 +34,77 @@ returns-in-Some-clause-text g c =
     let board = state_in c.args.board in
     let last = crew_of c.in-Some.script in
     let here : seen c.drive.new.judge ≡ Some last = ap optional_crew c.in-Some.is in
-    let first = subst (Appends _ _) (sym d.sends ∙ nothing-sent seen _ _ _ c.on.ensures.value (ends.Last c.in-Last.line) _ _ d.read) d.writes in
-    let ran : Writes (Report board (finished last)) c.run.result (g.W.Write.contents c.drive.new.writer) (g.W.Write.contents c.run.new.writer) = rw c.in-Some.is at c.run.ensures in
+    let first = subst (Appends _ _)
+    (sym d.sends ∙ nothing-sent seen _ _ _ c.on.ensures.value (ends.Last c.in-Last.line) _ _ d.read) d.writes in
+    let ran : Writes (Report board (finished last)) c.run.result (g.W.Write.contents c.drive.new.writer)
+    (g.W.Write.contents c.run.new.writer) = rw c.in-Some.is at c.run.ensures in
     spoken board (Report board (finished last)) _ _ _ _ _
-    (λ input p. tells-report board last input (optional_crew-for seen _ _ _ c.on.ensures.value c.in-Last.line d.answers input last here p)) d.whole first c.run.result ran
+    (λ input p. tells-report board last input
+    (optional_crew-for seen _ _ _ c.on.ensures.value c.in-Last.line d.answers input last here
+    p)) d.whole first c.run.result ran
 
 pub returns-in-None-clause-text : goal.returns-in-None-clause-text
 returns-in-None-clause-text g c =
     let d = c.in-Last.ensures.lines in
     let here : seen c.drive.new.judge ≡ None = ap optional_crew c.in-None.is in
-    let first = subst (Appends _ _) (sym d.sends ∙ nothing-sent seen _ _ _ c.on.ensures.value (ends.Last c.in-Last.line) _ _ d.read) d.writes in
+    let first = subst (Appends _ _)
+    (sym d.sends ∙ nothing-sent seen _ _ _ c.on.ensures.value (ends.Last c.in-Last.line) _ _ d.read) d.writes in
     spoken (state_in c.args.board) (Refusal c.in-Last.line faults.First) _ _ _ _ _
-    (λ input p. tells-refusal (state_in c.args.board) c.in-Last.line faults.First input (no-board seen _ _ _ c.on.ensures.value c.in-Last.line d.answers input here p)) d.whole first _ c.refuse.ensures
+    (λ input p. tells-refusal (state_in c.args.board) c.in-Last.line faults.First input
+    (no-board seen _ _ _ c.on.ensures.value c.in-Last.line d.answers input here p)) d.whole first _ c.refuse.ensures
 
 pub returns-in-Wrong-clause-text : goal.returns-in-Wrong-clause-text
 returns-in-Wrong-clause-text g c =
     let d = c.in-Wrong.ensures.lines in
     let line = c.in-Wrong.line in
     let fault = c.in-Wrong.fault in
-    let first = subst (Appends _ _) (sym d.sends ∙ nothing-sent seen _ _ _ c.on.ensures.value (ends.Wrong line fault) _ _ d.read) d.writes in
+    let first = subst (Appends _ _)
+    (sym d.sends ∙ nothing-sent seen _ _ _ c.on.ensures.value (ends.Wrong line fault) _ _ d.read) d.writes in
     spoken (state_in c.args.board) (Refusal line fault) _ _ _ _ _
-    (λ input p. tells-refusal (state_in c.args.board) line fault input (wrong seen _ _ _ c.on.ensures.value line fault d.answers input p)) d.whole first _ c.refuse-in-Wrong.ensures
+    (λ input p. tells-refusal (state_in c.args.board) line fault input
+    (wrong seen _ _ _ c.on.ensures.value line fault d.answers input p)) d.whole first _ c.refuse-in-Wrong.ensures
 
 pub returns-in-Some-clause-limit : goal.returns-in-Some-clause-limit
 returns-in-Some-clause-limit g c =
-    let ran : Writes (Report (state_in c.args.board) (finished (crew_of c.in-Some.script))) c.run.result (g.W.Write.contents c.drive.new.writer) (g.W.Write.contents c.run.new.writer) = rw c.in-Some.is at c.run.ensures in
-    within c.run.result (Report (state_in c.args.board) (finished (crew_of c.in-Some.script))) _ _ _ _ (λ _ none. none) ran c.in-Last.ensures.limit
+    let ran : Writes (Report (state_in c.args.board) (finished (crew_of c.in-Some.script))) c.run.result
+    (g.W.Write.contents c.drive.new.writer) (g.W.Write.contents c.run.new.writer) =
+    rw c.in-Some.is at c.run.ensures in
+    within c.run.result (Report (state_in c.args.board) (finished (crew_of c.in-Some.script))) _ _ _ _
+    (λ _ none. none) ran c.in-Last.ensures.limit
 
 pub returns-in-Some-clause-near : goal.returns-in-Some-clause-near
 returns-in-Some-clause-near g c =
-    let ran : Writes (Report (state_in c.args.board) (finished (crew_of c.in-Some.script))) c.run.result (g.W.Write.contents c.drive.new.writer) (g.W.Write.contents c.run.new.writer) = rw c.in-Some.is at c.run.ensures in
+    let ran : Writes (Report (state_in c.args.board) (finished (crew_of c.in-Some.script))) c.run.result
+    (g.W.Write.contents c.drive.new.writer) (g.W.Write.contents c.run.new.writer) =
+    rw c.in-Some.is at c.run.ensures in
     run-near (state_in c.args.board) c.run.result (finished (crew_of c.in-Some.script)) _ _ _ _ ran
 
 pub returns-in-None-clause-limit : goal.returns-in-None-clause-limit
-returns-in-None-clause-limit g c = within _ (Refusal c.in-Last.line faults.First) _ _ _ _ (λ _ none. none) c.refuse.ensures c.in-Last.ensures.limit
+returns-in-None-clause-limit g c =
+    within _ (Refusal c.in-Last.line faults.First) _ _ _ _ (λ _ none. none) c.refuse.ensures c.in-Last.ensures.limit
 
 pub returns-in-None-clause-near : goal.returns-in-None-clause-near
 returns-in-None-clause-near g c = fault-near _ _ _ _ _ _ _ c.refuse.ensures c.in-Last.ensures.near
 
 pub returns-in-Wrong-clause-limit : goal.returns-in-Wrong-clause-limit
-returns-in-Wrong-clause-limit g c = within _ (Refusal c.in-Wrong.line c.in-Wrong.fault) _ _ _ _ (λ _ none. none) c.refuse-in-Wrong.ensures c.in-Wrong.ensures.limit
+returns-in-Wrong-clause-limit g c =
+    within _ (Refusal c.in-Wrong.line c.in-Wrong.fault) _ _ _ _
+    (λ _ none. none) c.refuse-in-Wrong.ensures c.in-Wrong.ensures.limit
 
 pub returns-in-Wrong-clause-near : goal.returns-in-Wrong-clause-near
 returns-in-Wrong-clause-near g c = fault-near _ _ _ _ _ _ _ c.refuse-in-Wrong.ensures c.in-Wrong.ensures.near
 
 pub returns-in-Long-clause-limit : goal.returns-in-Long-clause-limit
-returns-in-Long-clause-limit g c = within _ (Refusal c.in-Long.line faults.Long) _ _ _ _ (λ _ none. none) c.refuse-in-Long.ensures c.in-Long.ensures.limit
+returns-in-Long-clause-limit g c =
+    within _ (Refusal c.in-Long.line faults.Long) _ _ _ _
+    (λ _ none. none) c.refuse-in-Long.ensures c.in-Long.ensures.limit
 
 pub returns-in-Long-clause-near : goal.returns-in-Long-clause-near
 returns-in-Long-clause-near g c = fault-near _ _ _ _ _ _ _ c.refuse-in-Long.ensures c.in-Long.ensures.near
 
 pub returns-in-Cut-clause-limit : goal.returns-in-Cut-clause-limit
-returns-in-Cut-clause-limit g c = within _ (Refusal c.in-Cut.line faults.Cut) _ _ _ _ (λ _ none. none) c.refuse-in-Cut.ensures c.in-Cut.ensures.limit
+returns-in-Cut-clause-limit g c =
+    within _ (Refusal c.in-Cut.line faults.Cut) _ _ _ _ (λ _ none. none) c.refuse-in-Cut.ensures c.in-Cut.ensures.limit
 
 pub returns-in-Cut-clause-near : goal.returns-in-Cut-clause-near
 returns-in-Cut-clause-near g c = fault-near _ _ _ _ _ _ _ c.refuse-in-Cut.ensures c.in-Cut.ensures.near
@@ -93,17 +113,21 @@ pub returns-in-Long-clause-text : goal.returns-in-Long-clause-text
 returns-in-Long-clause-text g c =
     let d = c.in-Long.ensures.lines in
     let line = c.in-Long.line in
-    let first = subst (Appends _ _) (sym d.sends ∙ nothing-sent seen _ _ _ c.on.ensures.value (ends.Long line) _ _ d.read) d.writes in
+    let first = subst (Appends _ _)
+    (sym d.sends ∙ nothing-sent seen _ _ _ c.on.ensures.value (ends.Long line) _ _ d.read) d.writes in
     spoken (state_in c.args.board) (Refusal line faults.Long) _ _ _ _ _
-    (λ input p. tells-refusal (state_in c.args.board) line faults.Long input (long seen _ _ _ c.on.ensures.value line d.answers input p)) d.whole first _ c.refuse-in-Long.ensures
+    (λ input p. tells-refusal (state_in c.args.board) line faults.Long input
+    (long seen _ _ _ c.on.ensures.value line d.answers input p)) d.whole first _ c.refuse-in-Long.ensures
 
 pub returns-in-Cut-clause-text : goal.returns-in-Cut-clause-text
 returns-in-Cut-clause-text g c =
     let d = c.in-Cut.ensures.lines in
     let line = c.in-Cut.line in
-    let first = subst (Appends _ _) (sym d.sends ∙ nothing-sent seen _ _ _ c.on.ensures.value (ends.Cut line) _ _ d.read) d.writes in
+    let first = subst (Appends _ _)
+    (sym d.sends ∙ nothing-sent seen _ _ _ c.on.ensures.value (ends.Cut line) _ _ d.read) d.writes in
     spoken (state_in c.args.board) (Refusal line faults.Cut) _ _ _ _ _
-    (λ input p. tells-refusal (state_in c.args.board) line faults.Cut input (cut seen _ _ _ c.on.ensures.value line d.answers input p)) d.whole first _ c.refuse-in-Cut.ensures
+    (λ input p. tells-refusal (state_in c.args.board) line faults.Cut input
+    (cut seen _ _ _ c.on.ensures.value line d.answers input p)) d.whole first _ c.refuse-in-Cut.ensures
 
 pub returns-in-Memory-clause-text : goal.returns-in-Memory-clause-text
 returns-in-Memory-clause-text g c =
@@ -120,5 +144,14 @@ returns-in-Reading-clause-text g c =
 pub returns-in-Writing-clause-text : goal.returns-in-Writing-clause-text
 returns-in-Writing-clause-text g c =
     let d = c.in-Writing.ensures.lines in
-    let none = none-sent d.sent d.sends.0 (sym d.sends.1 ∙ nothing-sent seen _ _ _ c.on.ensures.value ends.Writing _ _ d.read) in
-    record { sent = []; is = record { end = Memory; unsent = []; text = known _ _ (λ _. [] ≡ []) (λ _ _. refl) d.whole }; appended = subst (Appends _ _) none d.writes }
+    let none = none-sent d.sent d.sends.0
+    (sym d.sends.1 ∙ nothing-sent seen _ _ _ c.on.ensures.value ends.Writing _ _ d.read) in
+    record {
+      sent = [];
+      is = record {
+        end = Memory;
+        unsent = [];
+        text = known _ _ (λ _. [] ≡ []) (λ _ _. refl) d.whole;
+      };
+      appended = subst (Appends _ _) none d.writes;
+    }

@@ -14,6 +14,9 @@ returns g c =
     let title = c.in_ok-put.ensures.appended in
     let opening = c.in_ok-put_opening.ensures in
     on_ok_weaker c.put_moment.result
-    (λ h. in_turn (codes "image 1" ++ 10 ∷ []) (line_of (item_fields (Opening (processors s) (Some (length s.pages)) s.next_ticket))) (text_of (moment_lines s.moment))
-    (g.S.Sink.text c.args.out.now) (g.S.Sink.text c.put.new.self) (g.S.Sink.text c.put_opening.new.out) (g.S.Sink.text c.put_moment.new.out) title (search rules) h)
+    (λ h. in_turn (codes "image 1" ++ 10 ∷ [])
+    (line_of (item_fields (Opening (processors s) (Some (length s.pages)) s.next_ticket)))
+    (text_of (moment_lines s.moment))
+    (g.S.Sink.text c.args.out.now) (g.S.Sink.text c.put.new.self) (g.S.Sink.text c.put_opening.new.out)
+    (g.S.Sink.text c.put_moment.new.out) title (search rules) h)
     (search rules)

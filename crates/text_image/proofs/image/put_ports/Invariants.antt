@@ -4,4 +4,5 @@ use Rattle.text_image.specs.Image.{each_below, port_lines}
 use Rattle.text_image.proofs.image.put_ports.Given as goal
 
 abbrev pub invariant-loop-number : goal.invariant-loop-number
-invariant-loop-number g l = g.S.Sink.text l.out ≡ g.S.Sink.text l.fn.out ++ text_of (each_below l.number (port_lines l.board.state))
+invariant-loop-number g l =
+    g.S.Sink.text l.out ≡ g.S.Sink.text l.fn.out ++ text_of (each_below l.number (port_lines l.board.state))

@@ -4,8 +4,12 @@ use Rattle.text_image.proofs.Each.{each-none, each-step}
 use Rattle.text_image.proofs.messages.put_queue.Goals as goal
 
 pub loop-index-init : goal.loop-index-init
-loop-index-init g c = each-none (queued_lines c.args.board.now.state c.args.vp c.args.sint) (g.S.Sink.text c.args.out.now)
+loop-index-init g c =
+    each-none (queued_lines c.args.board.now.state c.args.vp c.args.sint) (g.S.Sink.text c.args.out.now)
 
 pub loop-index-preserved : goal.loop-index-preserved
-loop-index-preserved g c = each-step (queued_lines c.args.board.now.state c.args.vp c.args.sint) c.loop-index.index c.loop-index.index (g.S.Sink.text c.args.out.now)
-    (g.S.Sink.text c.loop-index.out) (g.S.Sink.text c.put_queued.new.out) c.loop-index.invariant refl c.in_ok-put_queued.ensures
+loop-index-preserved g c =
+    each-step (queued_lines c.args.board.now.state c.args.vp c.args.sint) c.loop-index.index c.loop-index.index
+    (g.S.Sink.text c.args.out.now)
+    (g.S.Sink.text c.loop-index.out)
+    (g.S.Sink.text c.put_queued.new.out) c.loop-index.invariant refl c.in_ok-put_queued.ensures

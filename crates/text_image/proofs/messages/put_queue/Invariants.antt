@@ -4,4 +4,6 @@ use Rattle.text_image.specs.Image.{each_below, queued_lines}
 use Rattle.text_image.proofs.messages.put_queue.Given as goal
 
 abbrev pub invariant-loop-index : goal.invariant-loop-index
-invariant-loop-index g l = g.S.Sink.text l.out ≡ g.S.Sink.text l.fn.out ++ text_of (each_below l.index (queued_lines l.board.state l.vp l.sint))
+invariant-loop-index g l =
+    g.S.Sink.text l.out ≡ g.S.Sink.text l.fn.out
+    ++ text_of (each_below l.index (queued_lines l.board.state l.vp l.sint))

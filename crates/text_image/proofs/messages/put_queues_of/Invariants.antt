@@ -4,4 +4,5 @@ use Rattle.text_image.specs.Image.{each_below, queue_lines}
 use Rattle.text_image.proofs.messages.put_queues_of.Given as goal
 
 abbrev pub invariant-loop-number : goal.invariant-loop-number
-invariant-loop-number g l = g.S.Sink.text l.out ≡ g.S.Sink.text l.fn.out ++ text_of (each_below l.number (queue_lines l.board.state l.vp))
+invariant-loop-number g l =
+    g.S.Sink.text l.out ≡ g.S.Sink.text l.fn.out ++ text_of (each_below l.number (queue_lines l.board.state l.vp))

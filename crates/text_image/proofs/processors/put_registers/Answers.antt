@@ -6,5 +6,8 @@ pub loop-number-init : goal.loop-number-init
 loop-number-init g c = each-none (register_lines c.args.board.now.state) (g.S.Sink.text c.args.out.now)
 
 pub loop-number-preserved : goal.loop-number-preserved
-loop-number-preserved g c = each-step (register_lines c.args.board.now.state) c.loop-number.number c.vp_of-vp.result (g.S.Sink.text c.args.out.now) (g.S.Sink.text c.loop-number.out)
-    (g.S.Sink.text c.put_registers_of.new.out) c.loop-number.invariant c.vp_of-vp.ensures c.in_ok-put_registers_of.ensures
+loop-number-preserved g c =
+    each-step (register_lines c.args.board.now.state) c.loop-number.number c.vp_of-vp.result
+    (g.S.Sink.text c.args.out.now) (g.S.Sink.text c.loop-number.out)
+    (g.S.Sink.text c.put_registers_of.new.out) c.loop-number.invariant c.vp_of-vp.ensures
+    c.in_ok-put_registers_of.ensures

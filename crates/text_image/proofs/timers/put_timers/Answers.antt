@@ -6,5 +6,7 @@ pub loop-number-init : goal.loop-number-init
 loop-number-init g c = each-none (timers_lines c.args.board.now.state) (g.S.Sink.text c.args.out.now)
 
 pub loop-number-preserved : goal.loop-number-preserved
-loop-number-preserved g c = each-step (timers_lines c.args.board.now.state) c.loop-number.number c.vp_of-vp.result (g.S.Sink.text c.args.out.now) (g.S.Sink.text c.loop-number.out)
+loop-number-preserved g c =
+    each-step (timers_lines c.args.board.now.state) c.loop-number.number c.vp_of-vp.result
+    (g.S.Sink.text c.args.out.now) (g.S.Sink.text c.loop-number.out)
     (g.S.Sink.text c.put_timers_of.new.out) c.loop-number.invariant c.vp_of-vp.ensures c.in_ok-put_timers_of.ensures

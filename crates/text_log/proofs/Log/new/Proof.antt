@@ -53,21 +53,28 @@ module _ {M : Type 1} {𝓤 : Ura M} (𝓛 : Logic 𝓤) (𝓜 : Model 𝓤 𝓛
     abbrev At : (walk_of 𝓛 ended stayed held).Ghost
     At = ((z.0.0, z.0.1, z.0.2, z.0.3, tt), z.1)
 
-    walks : ent 𝓤 ((walk_of 𝓛 ended stayed held).pre At) (WpFn 𝓤 H 𝓣.C 𝓣.Λ function [] ((walk_of 𝓛 ended stayed held).post At))
+    walks : ent 𝓤 ((walk_of 𝓛 ended stayed held).pre At)
+        (WpFn 𝓤 H 𝓣.C 𝓣.Λ function [] ((walk_of 𝓛 ended stayed held).post At))
     walks =
-        let v : Val = vstruct (vcons (vstruct vnil) vnil) in let r : denote.Triple.Entry.Res ended.signature z.0.0 = record { marker = record {}; bytes = [] } in
+        let v : Val =
+        vstruct (vcons (vstruct vnil) vnil) in let r : denote.Triple.Entry.Res ended.signature z.0.0 =
+        record { marker = record {}; bytes = [] } in
         let O : Fml = (type_at ended.signature.result z.0.0).own_val r (v ∷ []) in
-        qed 𝓛 (raw (on_entry 𝓛 ended.signature z.0.0 z.0.1 z.0.3 tt) ∷ raw ((held z.0.0 z.0.3).requires z.1) ∷ []) ∵ keep ! [] $
+        qed 𝓛 (raw (on_entry 𝓛 ended.signature z.0.0 z.0.1 z.0.3 tt) ∷ raw ((held z.0.0 z.0.3).requires z.1) ∷ []) ∵
+        keep ! [] $
         enter ! 𝓣.C 𝓣.Λ function [] _ $ alloc_all ! (λ l. pass_all ! refl tt $
-        sets ! (agg ! (no_more !)) refl (tt, tt) $ sets ! (agg ! (and_then ! (get ! refl) (no_more !))) refl (tt, (tt, tt)) $
+        sets ! (agg ! (no_more !)) refl (tt, tt) $ sets ! (agg ! (and_then ! (get ! refl) (no_more !))) refl
+        (tt, (tt, tt)) $
         returns ! (look_at ! 0 refl) $ free_all ! refl $
-        use0 𝓛 (‵ O) (makes_shadow 𝓛 O ((λ vss. (tt, ((λ uss. (tt, tt)), tt))), tt) (((vstruct vnil ∷ [], tt), (refl, ((tt, (refl, tt)), tt))), tt)) $
+        use0 𝓛 (‵ O) (makes_shadow 𝓛 O ((λ vss. (tt, ((λ uss. (tt, tt)), tt))), tt)
+        (((vstruct vnil ∷ [], tt), (refl, ((tt, (refl, tt)), tt))), tt)) $
         suffices ! _ (ends_at 𝓛 ended stayed held At v r tt tt) $ says ! refl $
         nothing ! $ nothing ! $ done !)
 
   meets : Meets 𝓛 ended.signature (WpFn 𝓤 H 𝓣.C 𝓣.Λ function) (closing 𝓛 ended held)
   unfolding tables_of contract.CodeStep.c_Tables
-  meets = walk_Meets 𝓛 ended stayed tt held (WpFn 𝓤 H 𝓣.C 𝓣.Λ function) (WpFn-mono 𝓤 H 𝓛.laws (tables_of 𝓤 H 𝓜 𝓣) function) (λ z. walks z)
+  meets = walk_Meets 𝓛 ended stayed tt held (WpFn 𝓤 H 𝓣.C 𝓣.Λ function)
+      (WpFn-mono 𝓤 H 𝓛.laws (tables_of 𝓤 H 𝓜 𝓣) function) (λ z. walks z)
 
 pub new_spec : {M : Type 1} → stated.statement M
 new_spec 𝓤 𝓛 𝓜 𝓡 wired = let 𝓣' = tables 𝓤 𝓛.H 𝓜 𝓡 𝓡.env in

@@ -10,10 +10,13 @@ abbrev seen : ImageJudge → Stage
 seen judge = stage_of judge.stage
 
 pub returns-clause-text : goal.returns-clause-text
-returns-clause-text g c = restored seen _ _ refl c.drive-end.result c.conclude.result _ _ _ _ c.conclude.ensures c.drive-end.ensures.lines
+returns-clause-text g c =
+    restored seen _ _ refl c.drive-end.result c.conclude.result _ _ _ _ c.conclude.ensures c.drive-end.ensures.lines
 
 pub returns-clause-limit : goal.returns-clause-limit
-returns-clause-limit g c = concluded-within c.drive-end.result _ c.conclude.result _ _ c.conclude.ensures c.drive-end.ensures.limit
+returns-clause-limit g c =
+    concluded-within c.drive-end.result _ c.conclude.result _ _ c.conclude.ensures c.drive-end.ensures.limit
 
 pub returns-clause-near : goal.returns-clause-near
-returns-clause-near g c = concluded-near c.drive-end.result _ c.conclude.result _ _ c.conclude.ensures c.drive-end.ensures.near
+returns-clause-near g c =
+    concluded-near c.drive-end.result _ c.conclude.result _ _ c.conclude.ensures c.drive-end.ensures.near

@@ -14,9 +14,13 @@ loop-entry-preserved c =
     let i = c.loop-entry.entry-index in
     let e = c.entry-item.result in
     let inside : i < length history = omega arith in (
-      history-step history i e c.loop-entry.out.items _ _ inside c.entry-item.is c.in_ok-put_entry.ensures.written c.loop-entry.invariant.0,
-      All-more (IsEntry Five) history i e inside c.loop-entry.invariant.1 (subst (IsEntry Five) c.entry-item.is c.in_ok-put_entry.ensures.fits),
+      history-step history i e c.loop-entry.out.items _ _ inside c.entry-item.is c.in_ok-put_entry.ensures.written
+          c.loop-entry.invariant.0,
+      All-more (IsEntry Five) history i e inside c.loop-entry.invariant.1
+          (subst (IsEntry Five) c.entry-item.is c.in_ok-put_entry.ensures.fits),
     )
 
 pub returns-clause-fits : goal.returns-clause-fits
-returns-clause-fits c = subst (λ (xs : List Entry). All (IsEntry Five) xs) (take_all c.loop-entry.entry-index c.args.history.now (omega arith)) c.loop-entry.invariant.1
+returns-clause-fits c =
+    subst (λ (xs : List Entry). All (IsEntry Five) xs)
+    (take_all c.loop-entry.entry-index c.args.history.now (omega arith)) c.loop-entry.invariant.1

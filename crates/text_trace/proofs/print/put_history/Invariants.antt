@@ -6,5 +6,7 @@ use Rattle.text_trace.specs.Trace.{IsEntry, history_lines}
 use Rattle.text_trace.proofs.print.put_history.Given as goal
 
 abbrev pub invariant-loop-entry : goal.invariant-loop-entry
-invariant-loop-entry l = (l.out.items ++ text_of (history_lines (drop l.entry-index l.history)) ≡ l.fn.out.items ++ text_of (history_lines l.history))
+invariant-loop-entry l =
+    (l.out.items ++ text_of (history_lines (drop l.entry-index l.history))
+    ≡ l.fn.out.items ++ text_of (history_lines l.history))
     × All (IsEntry Five) (take l.entry-index l.history)

@@ -12,10 +12,14 @@ returns-clause-written c =
     let beginning : List ℕ = board_text c.args.processors None c.args.first_ticket in
     let history = c.args.history.now in
     let next = c.args.next_ticket in
-    subst (λ (f : Format). OnOk c.put_rest.result (c.put_rest.new.out.items ≡ c.args.out.now.items ++ trace_text f beginning history next)) c.for_history-format.ensures
+    subst (λ (f : Format). OnOk c.put_rest.result
+    (c.put_rest.new.out.items
+    ≡ c.args.out.now.items ++ trace_text f beginning history next)) c.for_history-format.ensures
     (on_ok_weaker c.put_rest.result
-    (λ h. trace-parts c.for_history-format.result beginning history next c.args.out.now.items _ _ _ c.in_ok-put_title.ensures c.in_ok-put_opening.ensures h)
+    (λ h. trace-parts c.for_history-format.result beginning history next c.args.out.now.items _ _ _
+    c.in_ok-put_title.ensures c.in_ok-put_opening.ensures h)
     c.put_rest.ensures.written)
 
 pub returns-clause-fits : goal.returns-clause-fits
-returns-clause-fits c = on_ok_weaker c.put_rest.result (λ fits. all-written Four four-all c.args.history.now fits) c.put_rest.ensures.fits
+returns-clause-fits c =
+    on_ok_weaker c.put_rest.result (λ fits. all-written Four four-all c.args.history.now fits) c.put_rest.ensures.fits

@@ -14,7 +14,10 @@ invariant_of-self g c =
     let is = c.perform-reply.ensures.performs.step in
     let now = c.push.ensures in
     record {
-      legal = legal-push start s.board.state s.history.entries c.push.new.self.entries c.args.actor event reply s.legal s.leads now (ap (λ (o : Outcome). o.1) is);
-      leads = leads-push start s.board.state next s.history.entries c.push.new.self.entries c.args.actor event reply s.leads now (ap (λ (o : Outcome). o.0) is);
-      count = count-kept s.board.state next event reply c.perform-reply.new.notices c.fits.ensures c.facts.ensures.sound is ∙ s.count;
+      legal = legal-push start s.board.state s.history.entries c.push.new.self.entries c.args.actor event reply
+          s.legal s.leads now (ap (λ (o : Outcome). o.1) is);
+      leads = leads-push start s.board.state next s.history.entries c.push.new.self.entries c.args.actor event reply
+          s.leads now (ap (λ (o : Outcome). o.0) is);
+      count = count-kept s.board.state next event reply c.perform-reply.new.notices c.fits.ensures
+          c.facts.ensures.sound is ∙ s.count;
     }

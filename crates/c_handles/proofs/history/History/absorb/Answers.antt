@@ -11,15 +11,26 @@ use Rattle.c_handles.proofs.history.History.absorb.Goals as goal
 pub invariant_of-self-2 : goal.invariant_of-self-2
 invariant_of-self-2 c =
     let s = c.self.inside in
-    let now = c.push.ensures ∙ ap (λ (es : List Entry). es ++ entry c.args.actor (Absorb c.args.vp c.args.part c.sweep_for-bits.result) c.perform-reply.result ∷ []) c.reserve.ensures.entries in (
+    let now = c.push.ensures
+    ∙ ap (λ (es : List Entry). es
+    ++ entry c.args.actor (Absorb c.args.vp c.args.part c.sweep_for-bits.result)
+    c.perform-reply.result ∷ []) c.reserve.ensures.entries in (
       c.self.invariant.0,
-      legal-push (opened s.processors s.pages s.first_ticket) c.args.board.now.board.state s.log.entries c.push.new.self.entries c.args.actor (Absorb c.args.vp c.args.part c.sweep_for-bits.result)
-          c.perform-reply.result c.self.invariant.1 (c.requires ∙ sym (ap end_of c.self.view_is)) now (ap (λ (o : Outcome). o.1) c.perform-reply.ensures.performs.step),
+      legal-push (opened s.processors s.pages s.first_ticket) c.args.board.now.board.state s.log.entries
+          c.push.new.self.entries c.args.actor (Absorb c.args.vp c.args.part c.sweep_for-bits.result)
+          c.perform-reply.result c.self.invariant.1 (c.requires ∙ sym (ap end_of c.self.view_is)) now
+          (ap (λ (o : Outcome). o.1) c.perform-reply.ensures.performs.step),
     )
 
 pub returns-clause-leads : goal.returns-clause-leads
 returns-clause-leads c =
     let s = c.self.inside in
-    let now = c.push.ensures ∙ ap (λ (es : List Entry). es ++ entry c.args.actor (Absorb c.args.vp c.args.part c.sweep_for-bits.result) c.perform-reply.result ∷ []) c.reserve.ensures.entries in
-    leads-push (opened s.processors s.pages s.first_ticket) c.args.board.now.board.state c.perform-reply.new.self.board.state s.log.entries c.push.new.self.entries c.args.actor
-    (Absorb c.args.vp c.args.part c.sweep_for-bits.result) c.perform-reply.result (c.requires ∙ sym (ap end_of c.self.view_is)) now (ap (λ (o : Outcome). o.0) c.perform-reply.ensures.performs.step)
+    let now = c.push.ensures
+    ∙ ap (λ (es : List Entry). es
+    ++ entry c.args.actor (Absorb c.args.vp c.args.part c.sweep_for-bits.result)
+    c.perform-reply.result ∷ []) c.reserve.ensures.entries in
+    leads-push (opened s.processors s.pages s.first_ticket) c.args.board.now.board.state
+    c.perform-reply.new.self.board.state s.log.entries c.push.new.self.entries c.args.actor
+    (Absorb c.args.vp c.args.part c.sweep_for-bits.result) c.perform-reply.result
+    (c.requires ∙ sym (ap end_of c.self.view_is)) now
+    (ap (λ (o : Outcome). o.0) c.perform-reply.ensures.performs.step)

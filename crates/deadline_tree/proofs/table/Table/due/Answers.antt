@@ -21,7 +21,8 @@ returns-then-word c =
     let t = (tree_in c.args.self.now) in
     let low : c.args.number < count t = omega arith in
     let is : word_of t c.args.number ≡ late_word = sym c.word-word.ensures ∙ c.if-word.true in
-    sym (dues_at t c.args.number low ∙ ap (λ w. due_from w (late_due t c.args.number)) is ∙ ap Some (sym (c.index.ensures ∙ get_or_default_zero t.lates c.args.number c.index.result.now low)))
+    sym (dues_at t c.args.number low ∙ ap (λ w. due_from w (late_due t c.args.number)) is
+    ∙ ap Some (sym (c.index.ensures ∙ get_or_default_zero t.lates c.args.number c.index.result.now low)))
 
 pub returns-else-word : goal.returns-else-word
 returns-else-word c =

@@ -8,7 +8,9 @@ use Rattle.deadline_tree.proofs.table.Table.first_late.Goals as goal
 pub returns-then-index : goal.returns-then-index
 returns-then-index c =
     let t = (tree_in c.args.self.now) in
-    let is : c.index.result.now ≡ node t 1 = c.index.ensures ∙ get_or_default_zero t.nodes 1 c.index.result.now (omega (arith, c.requires.sound.tree.nodes, c.requires.sound.tree.some)) in
+    let is : c.index.result.now ≡ node t 1 =
+    c.index.ensures ∙ get_or_default_zero t.nodes 1 c.index.result.now
+    (omega (arith, c.requires.sound.tree.nodes, c.requires.sound.tree.some)) in
     root-none t c.requires.sound (omega (arith, is, c.if-index.true))
 
 pub returns-in-Some : goal.returns-in-Some

@@ -13,6 +13,8 @@ returns-clause-set c =
     let t = (tree_in c.args.self.now) in
     let n = c.args.number in
     let now = stored t n c.args.due in
-    c.write.ensures.dues ∙ ap (λ far. set (dues (stored (tree_in c.args.self.now) c.args.number c.args.due)) c.args.number (due_from late_word far))
+    c.write.ensures.dues ∙ ap
+    (λ far. set (dues (stored (tree_in c.args.self.now) c.args.number c.args.due)) c.args.number
+    (due_from late_word far))
     (late-here t now n c.args.due c.requires.sound c.requires.number refl refl)
     ∙ stored-set t now n c.args.due c.requires.sound c.requires.number refl refl (Some c.args.due)

@@ -5,8 +5,11 @@ use Rattle.deadline_tree.proofs.table.Table.write.Goals as goal
 
 pub climb-requires-clause-climbing : goal.climb-requires-clause-climbing
 climb-requires-clause-climbing c = rw c.leaf-leaf.ensures
-    (written-climbing (tree_in c.args.self.now) _ c.args.number c.args.word c.requires.sound.tree c.requires.number refl refl c.requires.sound.ordered c.requires.word)
+    (written-climbing (tree_in c.args.self.now) _ c.args.number c.args.word c.requires.sound.tree c.requires.number
+    refl refl c.requires.sound.ordered c.requires.word)
 
 pub returns-clause-dues : goal.returns-clause-dues
-returns-clause-dues c = c.climb.ensures.dues ∙ dues-written (tree_in c.args.self.now) _ c.args.number c.args.word c.requires.sound.tree c.requires.number
+returns-clause-dues c =
+    c.climb.ensures.dues ∙ dues-written
+    (tree_in c.args.self.now) _ c.args.number c.args.word c.requires.sound.tree c.requires.number
     (ap (λ j. set (tree_in c.args.self.now).nodes j c.args.word) c.leaf-leaf.ensures) refl

@@ -11,4 +11,6 @@ returns-else-processor-count c =
     let seen = ap (λ (d : TreeModel). d.dues) c.self.view_is in
     let past = c.if-processor-count.false in
     let fails : nat_lt (4 * c.number-processor.result) c.count.result ≡ false = grind (arith, nat_tests) in
-    fails ∙ sym (past-processors t c.args.moment c.args.vp (omega (arith, past, c.count.ensures, c.number-processor.ensures.value))) ∙ ap (λ m. has_due m c.args.moment c.args.vp) seen
+    fails ∙ sym (past-processors t c.args.moment c.args.vp
+    (omega (arith, past, c.count.ensures, c.number-processor.ensures.value)))
+    ∙ ap (λ m. has_due m c.args.moment c.args.vp) seen

@@ -9,7 +9,8 @@ use Rattle.deadline_tree.proofs.tree.DeadlineTree.set.Goals as goal
 
 pub returns-then-number-count-clause-compared : goal.returns-then-number-count-clause-compared
 returns-then-number-count-clause-compared c =
-    let many : count (tree_in c.self.inside.table) ≡ length c.args.self.now.dues = sym (length-dues (tree_in c.self.inside.table)) ∙ ap (λ (m : TreeModel). length m.dues) c.self.view_is in
+    let many : count (tree_in c.self.inside.table) ≡ length c.args.self.now.dues =
+    sym (length-dues (tree_in c.self.inside.table)) ∙ ap (λ (m : TreeModel). length m.dues) c.self.view_is in
     let before = ap (λ (m : TreeModel). m.compared) c.self.view_is in
     omega (arith, c.set.ensures.compared, ap levels many, before)
 
@@ -17,5 +18,6 @@ pub returns-else-number-count-clause-set : goal.returns-else-number-count-clause
 returns-else-number-count-clause-set c =
     let seen = ap (λ (d : TreeModel). d.dues) c.self.view_is in
     let many = length-dues (tree_in c.self.inside.table) in
-    let past : length c.args.self.now.dues ≤ number_of c.args.timer = omega (arith, ap length seen, many, c.count.ensures, c.if-number-count.false, c.number-number.ensures.value) in
+    let past : length c.args.self.now.dues ≤ number_of c.args.timer =
+    omega (arith, ap length seen, many, c.count.ensures, c.if-number-count.false, c.number-number.ensures.value) in
     sym (set_past c.args.self.now.dues (number_of c.args.timer) (Some c.args.due) past)

@@ -4,4 +4,9 @@ use Rattle.entry_log.proofs.Reading.{entries-length}
 use Rattle.entry_log.proofs.log.EntryLog.len.Goals as goal
 
 pub returns : goal.returns
-returns c = omega (arith, c.len.ensures, entries-length c.self.inside.bytes.items c.self.inside.compact.items, ap (λ (l : Log). length l.entries) c.self.view_is)
+returns c = omega (
+  arith,
+  c.len.ensures,
+  entries-length c.self.inside.bytes.items c.self.inside.compact.items,
+  ap (λ (l : Log). length l.entries) c.self.view_is,
+)

@@ -14,9 +14,11 @@ returns c =
     let e : CompactEntry = record { actor = c.args.actor; event = c.of.result; reply = c.of-2.result } in
     let all : c.append-2.new.to.items ≡ bytes ++ (front ++ behind) =
     c.append-2.ensures.items
-    ∙ (λ i. (c.append.ensures.items ∙ (λ j. bytes ++ c.bytes_of_event.ensures.value j)) i ++ c.bytes_of_reply.ensures.value i)
+    ∙ (λ i. (c.append.ensures.items ∙ (λ j. bytes ++ c.bytes_of_event.ensures.value j)) i
+    ++ c.bytes_of_reply.ensures.value i)
     ∙ append_assoc bytes front behind in
-    let whole = entry-whole c.args.actor c.args.event.now c.args.reply.now c.of.result c.of-2.result c.of.ensures.same c.of.ensures.count c.of-2.ensures.same c.of-2.ensures.count in
+    let whole = entry-whole c.args.actor c.args.event.now c.args.reply.now c.of.result c.of-2.result c.of.ensures.same
+    c.of.ensures.count c.of-2.ensures.same c.of-2.ensures.count in
     let was = ap (λ (l : Log). l.entries) c.self.view_is in
     (λ i. entries_in (all i) (c.push_reserved.ensures.items i))
     ∙ entries-push bytes (front ++ behind) es e c.self.invariant.whole

@@ -80,24 +80,35 @@ module _ {M : Type 1} {𝓤 : Ura M} (𝓛 : Logic 𝓤) (𝓜 : Model 𝓤 𝓛
     walks : Goes (vptr b o ∷ [])
     walks =
         let v : Val = vstruct (vcons (vstruct vnil) vnil) in
-        let r : denote.Triple.Entry.Res ended.signature z.0.0 = record { marker = record {}; entries = z.0.3.0.now.before.value.entries ++ entry z.0.3.0.now.actor z.0.3.0.now.event.value z.0.3.0.now.reply.value ∷ [] } in
+        let r : denote.Triple.Entry.Res ended.signature z.0.0 =
+        record {
+          marker = record {};
+          entries =
+              z.0.3.0.now.before.value.entries
+              ++ entry z.0.3.0.now.actor z.0.3.0.now.event.value z.0.3.0.now.reply.value ∷ [];
+        } in
         let O : Fml = (type_at ended.signature.result z.0.0).own_val r (v ∷ []) in
         qed 𝓛 ((raw toks ⊛ ‵ passed) ∷ raw ((held z.0.0 z.0.3).requires z.1) ∷ []) ∵ split ! $ keep ! (0 ∷ []) $
         enter ! 𝓣.C 𝓣.Λ function (vptr b o ∷ []) _ $ alloc_all ! (λ l. pass_all ! refl ((tt, tt), tt) $
-        sets ! (agg ! (no_more !)) refl (tt, tt) $ sets ! (agg ! (and_then ! (get ! refl) (no_more !))) refl (tt, (tt, tt)) $
+        sets ! (agg ! (no_more !)) refl (tt, tt) $ sets ! (agg ! (and_then ! (get ! refl) (no_more !))) refl
+        (tt, (tt, tt)) $
         returns ! (look_at ! 0 refl) $ free_all ! refl $
-        use0 𝓛 (‵ O) (makes_shadow 𝓛 O ((λ vss. (tt, ((λ uss. (tt, tt)), tt))), tt) (((vstruct vnil ∷ [], tt), (refl, ((tt, (refl, tt)), tt))), tt)) $
+        use0 𝓛 (‵ O) (makes_shadow 𝓛 O ((λ vss. (tt, ((λ uss. (tt, tt)), tt))), tt)
+        (((vstruct vnil ∷ [], tt), (refl, ((tt, (refl, tt)), tt))), tt)) $
         suffices ! _ (ends_at 𝓛 ended stayed held (At (vptr b o ∷ [])) v r (tt, tt) (tt, tt)) $ says ! refl $
         nothing ! $ nothing ! $ fjoin ! $ join ! $ move ! (1 ∷ 0 ∷ []) $ join ! $ done !)
 
   meets : Meets 𝓛 ended.signature (WpFn 𝓤 H 𝓣.C 𝓣.Λ function) (closing 𝓛 ended held)
   unfolding tables_of contract.CodeStep.c_Tables
   meets =
-      walk_Meets 𝓛 ended stayed (Goes-dropped 𝓛 1 (RefOf (0 ∷ []) tt (plain (λ _. R)) (λ _. tt)) yes (λ κs x f. refl), tt) held
+      walk_Meets 𝓛 ended stayed
+      (Goes-dropped 𝓛 1 (RefOf (0 ∷ []) tt (plain (λ _. R)) (λ _. tt)) yes (λ κs x f. refl), tt) held
       (WpFn 𝓤 H 𝓣.C 𝓣.Λ function) (WpFn-mono 𝓤 H 𝓛.laws (tables_of 𝓤 H 𝓜 𝓣) function)
       (λ z. let a = z.0.3 in let vss = z.0.4 in let Rs : List RattleType = types_at ended.signature.params z.0.0 in
-      fact_use 𝓤 (Are Rs (Ises Rs) a vss) (via 𝓤 (sem 𝓛 (owns Rs a vss)) (via 𝓤 (on_entry 𝓛 ended.signature z.0.0 z.0.1 a vss)
-      (fst∗ 𝓤 (on_entry 𝓛 ended.signature z.0.0 z.0.1 a vss) ((held z.0.0 a).requires z.1)) (snd∗ 𝓤 (alive 𝓛 ended.signature z.0.0 z.0.1) (sem 𝓛 (owns Rs a vss))))
+      fact_use 𝓤 (Are Rs (Ises Rs) a vss)
+      (via 𝓤 (sem 𝓛 (owns Rs a vss)) (via 𝓤 (on_entry 𝓛 ended.signature z.0.0 z.0.1 a vss)
+      (fst∗ 𝓤 (on_entry 𝓛 ended.signature z.0.0 z.0.1 a vss) ((held z.0.0 a).requires z.1))
+      (snd∗ 𝓤 (alive 𝓛 ended.signature z.0.0 z.0.1) (sem 𝓛 (owns Rs a vss))))
       (owns_show 𝓛 Rs (Ises Rs) (showss 𝓛 Rs) a vss)) (λ are.
       subst (Goes z) (sym are.0.0) (walks z)))
 

@@ -7,11 +7,14 @@ use Rattle.gpa_space.proofs.mapped.OverlaysAt.first.Goals as goal
 
 pub returns-then-word-eq0 : goal.returns-then-word-eq0
 returns-then-word-eq0 c i =
-    let word = c.index-word.ensures ∙ get_or_default c.args.self.now.words.items c.args.page c.index-word.result.now 0 c.requires in
+    let word = c.index-word.ensures
+    ∙ get_or_default c.args.self.now.words.items c.args.page c.index-word.result.now 0 c.requires in
     ap (λ w. bit_at w i) (sym word ∙ c.if-word-eq0.true) ∙ bit_at-zero i
 
 pub returns : goal.returns
 returns c =
-    let word = c.index-word.ensures ∙ get_or_default c.args.self.now.words.items c.args.page c.index-word.result.now 0 c.requires in
+    let word = c.index-word.ensures
+    ∙ get_or_default c.args.self.now.words.items c.args.page c.index-word.result.now 0 c.requires in
     subst (λ w. IsLowest w (Some (trailing_zeros w16 c.index-word.result.now))) word
-    (bit_at-trailing_zeros w16 c.index-word.result.now (omega (arith, c.if-word-eq0.false)) (omega (arith, c.index-word.type_inv)))
+    (bit_at-trailing_zeros w16 c.index-word.result.now (omega (arith, c.if-word-eq0.false))
+    (omega (arith, c.index-word.type_inv)))

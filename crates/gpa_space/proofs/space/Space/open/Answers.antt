@@ -11,7 +11,8 @@ invariant_of-result c =
       bound = search rules;
       dense = search rules;
       own = ap length c.in_ok-own.ensures ∙ length-replicate _ _ ∙ sym (ap length registers ∙ length-replicate _ _);
-      each = ap length c.in_ok-mapped.ensures ∙ length-replicate _ _ ∙ sym (ap length c.in_ok-pages.ensures ∙ length-replicate _ _);
+      each = ap length c.in_ok-mapped.ensures ∙ length-replicate _ _
+          ∙ sym (ap length c.in_ok-pages.ensures ∙ length-replicate _ _);
       mapped = rw (registers, c.in_ok-mapped.ensures) (opens own_word 16 _ _);
       candidates = search rules;
       marked = λ sparse. rw (registers, c.in_ok-candidates.ensures) (opens low_bits 128 _ _);

@@ -16,9 +16,12 @@ invariant_of-self c =
     let on : o < length xs = search rules in
     let sparse : length c.self.inside.pages.items ≡ 0 = search rules in
     let before = c.new-before.ensures ∙ c.index.ensures ∙ get_or_default xs o c.index.result.now 0 on in
-    let leaves = subst (λ p. Marks 128 words once (low_bits p) o false) (c.page.ensures ∙ ap page_of before) c.mark.ensures in
-    let at = subst (λ p. Marks 128 once twice (low_bits p) o c.is_enabled.result) (c.page-then-is_empty.ensures ∙ ap page_of c.new-word.ensures) c.mark-then-is_empty.ensures in
-    let comes = subst (λ b. Marks 128 once twice (low_bits (page_of y)) o b) (c.is_enabled.ensures ∙ ap is_enabled c.new-word.ensures) at in
+    let leaves =
+    subst (λ p. Marks 128 words once (low_bits p) o false) (c.page.ensures ∙ ap page_of before) c.mark.ensures in
+    let at = subst (λ p. Marks 128 once twice (low_bits p) o c.is_enabled.result)
+    (c.page-then-is_empty.ensures ∙ ap page_of c.new-word.ensures) c.mark-then-is_empty.ensures in
+    let comes = subst (λ b. Marks 128 once twice (low_bits (page_of y)) o b)
+    (c.is_enabled.ensures ∙ ap is_enabled c.new-word.ensures) at in
     record {
       bound = search rules;
       dense = search rules;
@@ -40,9 +43,13 @@ invariant_of-self-else-is_empty c =
     let on : o < length xs = search rules in
     let before = c.new-before.ensures ∙ c.index.ensures ∙ get_or_default xs o c.index.result.now 0 on in
     let held : length c.self.inside.pages.items ≢ 0 = search rules in
-    let leaves = subst (λ p. Marks 16 words once p o false) (c.page-else-is_empty.ensures ∙ ap page_of before) c.mark-else-is_empty.ensures in
-    let at = subst (λ p. Marks 16 once twice p o c.is_enabled-else-is_empty.result) (c.page-else-is_empty-2.ensures ∙ ap page_of c.new-word.ensures) c.mark-else-is_empty-2.ensures in
-    let comes = subst (λ b. Marks 16 once twice (page_of y) o b) (c.is_enabled-else-is_empty.ensures ∙ ap is_enabled c.new-word.ensures) at in
+    let leaves =
+    subst (λ p. Marks 16 words once p o false)
+    (c.page-else-is_empty.ensures ∙ ap page_of before) c.mark-else-is_empty.ensures in
+    let at = subst (λ p. Marks 16 once twice p o c.is_enabled-else-is_empty.result)
+    (c.page-else-is_empty-2.ensures ∙ ap page_of c.new-word.ensures) c.mark-else-is_empty-2.ensures in
+    let comes = subst (λ b. Marks 16 once twice (page_of y) o b)
+    (c.is_enabled-else-is_empty.ensures ∙ ap is_enabled c.new-word.ensures) at in
     record {
       bound = search rules;
       dense = search rules;

@@ -9,5 +9,6 @@ invariant_of-self c =
       highest_is = c.self.invariant.highest_is;
       threshold_is = held;
       next_is = awaited_kept (serving _ _ _) _ _ c.next_above-self-inside.ensures.greatest held;
-      suspended = λ e. c.next_above-self-inside.ensures.none (full _ c.self.inside.requested _ _ _ _ c.floor_of-self-inside.ensures held e);
+      suspended = λ e. c.next_above-self-inside.ensures.none
+          (full _ c.self.inside.requested _ _ _ _ c.floor_of-self-inside.ensures held e);
     }

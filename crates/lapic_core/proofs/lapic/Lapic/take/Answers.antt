@@ -9,7 +9,8 @@ use Rattle.lapic_core.proofs.lapic.Lapic.take.Goals as goal
 pub invariant_of-self-else-auto : goal.invariant_of-self-else-auto
 invariant_of-self-else-auto c =
     let before = held_of c.self.inside in
-    let is : Some c.in_ok-vector.vector ≡ awaited before = sym (c.in_ok-vector.was {u = tt}) ∙ c.self.invariant.next_is in
+    let is : Some c.in_ok-vector.vector ≡ awaited before =
+    sym (c.in_ok-vector.was {u = tt}) ∙ c.self.invariant.next_is in
     let last = c.last_of_class-self-inside.ensures ∙ ap (λ n. last_of (class n)) c.number.ensures.value in
     rw (c.remove.ensures, c.insert.ensures) record {
       floor_is = c.self.invariant.floor_is;

@@ -8,5 +8,7 @@ use Rattle.message_queues.proofs.queues.Queues.facts.Goals as goal
 pub returns : goal.returns
 returns c =
     let all = subst (All HasMessageRanges) c.as_slice.ensures.value c.message_ranges.ensures in
-    let queues = of-queues (buffers_of c.self.inside) (of-buffers c.self.inside.neighbours c.self.inside.messages.items all) c.self.inside.chains.items in
+    let queues =
+    of-queues (buffers_of c.self.inside)
+    (of-buffers c.self.inside.neighbours c.self.inside.messages.items all) c.self.inside.chains.items in
     record { ranges = subst (All (All HasMessageRanges)) c.self.view_is queues }

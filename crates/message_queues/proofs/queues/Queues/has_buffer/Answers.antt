@@ -15,13 +15,15 @@ returns-then-has_port c =
     let qs = c.args.self.now in
     let used = c.from.ensures ∙ c.port_used.ensures.value in
     let low = c.if-has_port.ensures.0 refl in
-    subst (λ (m : Message). (IsTrue (nat_lt c.from.result 16) → HasBuffer qs m) × (HasBuffer qs m → IsTrue (nat_lt c.from.result 16))) (sym c.in-FromPort.is)
+    subst (λ (m : Message). (IsTrue (nat_lt c.from.result 16) → HasBuffer qs m)
+    × (HasBuffer qs m → IsTrue (nat_lt c.from.result 16))) (sym c.in-FromPort.is)
     (λ h. (low, below _ _ used h), λ h. tested _ _ used h.1)
 
 pub returns-else-has_port : goal.returns-else-has_port
 returns-else-has_port c =
     let qs = c.args.self.now in
-    subst (λ (m : Message). (IsTrue c.has_port.result → HasBuffer qs m) × (HasBuffer qs m → IsTrue c.has_port.result)) (sym c.in-FromPort.is)
+    subst (λ (m : Message). (IsTrue c.has_port.result → HasBuffer qs m) × (HasBuffer qs m → IsTrue c.has_port.result))
+    (sym c.in-FromPort.is)
     (λ h. let bad : false ≡ true = sym c.if-has_port.false ∙ h in absurd (cc), λ h. c.has_port.ensures.1 h.0)
 
 pub returns-then-has_timer : goal.returns-then-has_timer
@@ -29,5 +31,6 @@ returns-then-has_timer c =
     let qs = c.args.self.now in
     let free = c.timer_buffer_free.ensures in
     let on = c.if-has_timer.ensures.0 refl in
-    subst (λ (m : Message). (IsTrue c.timer_buffer_free.result → HasBuffer qs m) × (HasBuffer qs m → IsTrue c.timer_buffer_free.result)) (sym c.in-FromTimer.is)
+    subst (λ (m : Message). (IsTrue c.timer_buffer_free.result → HasBuffer qs m)
+    × (HasBuffer qs m → IsTrue c.timer_buffer_free.result)) (sym c.in-FromTimer.is)
     (λ h. (on, sym free ∙ h), λ h. free ∙ h.1)

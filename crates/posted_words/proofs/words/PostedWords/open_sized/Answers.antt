@@ -10,4 +10,5 @@ of_words-requires c =
     let tokens : ℕ = c.from-3.result + c.from-4.result in
     let some : 0 < tokens = omega (arith, c.from-3.ensures, c.requires.some_sweeper) in
     let zeros : c.as_slice.result.now ≡ replicate n 0 = search rules in
-    subst (λ (words : List ℕ). Posted (n, tokens) (opening words [] (view_of tokens ([] ∷ [])))) (sym zeros) (opens n tokens some)
+    subst (λ (words : List ℕ). Posted (n, tokens) (opening words [] (view_of tokens ([] ∷ [])))) (sym zeros)
+    (opens n tokens some)

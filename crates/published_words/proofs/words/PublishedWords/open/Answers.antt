@@ -13,7 +13,8 @@ of_words-requires c =
     let values : List ℕ = c.in_ok-values.values.items in
     opens c.of.result values c.as_slice-2.result.now
     (subst (λ (b : BoardModel). AreOpening b.state values) (sym c.of.ensures) c.in_ok-values.ensures)
-    (subst (λ (z : List ℕ × List ℕ). AreSpread z.0 z.1) (λ i. (c.as_slice.ensures.value i, sym c.as_slice-2.ensures.value i)) c.in_ok-spread.ensures)
+    (subst (λ (z : List ℕ × List ℕ). AreSpread z.0 z.1)
+    (λ i. (c.as_slice.ensures.value i, sym c.as_slice-2.ensures.value i)) c.in_ok-spread.ensures)
 
 pub invariant_of-result : goal.invariant_of-result
 invariant_of-result c =
@@ -24,5 +25,8 @@ invariant_of-result c =
       ap (λ (m : Me History View). is_writer m.0) me,
       ap (λ (m : Me History View). m.1) me,
       subst (λ (z : State × Logs). HasValues z.0 z.1 c.in_ok-values.values.items)
-          (λ i. ((sym from ∙ ap (λ (m : Me History View). start_of m.0) (sym me)) i, (ap no_logs (sym from) ∙ ap (λ (m : Me History View). logs_of m.0) (sym me)) i)) has,
+          (λ i. (
+            (sym from ∙ ap (λ (m : Me History View). start_of m.0) (sym me)) i,
+            (ap no_logs (sym from) ∙ ap (λ (m : Me History View). logs_of m.0) (sym me)) i,
+          )) has,
     )

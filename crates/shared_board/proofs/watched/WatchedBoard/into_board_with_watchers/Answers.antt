@@ -6,4 +6,5 @@ use Rattle.shared_board.proofs.watched.WatchedBoard.into_board_with_watchers.Goa
 pub returns-in-Ok-clause-within : goal.returns-in-Ok-clause-within
 returns-in-Ok-clause-within g c =
     let same = ap (λ (p : Publishing). p.shared.history) c.compare_all.ensures.same.0 in
-    λ k d inside. subst (λ h. IsWithin h (get_or c.args.watchers.now k d)) (sym (c.in-Ok.ensures.history ∙ same)) (c.compare_all.ensures.within k d inside)
+    λ k d inside. subst (λ h. IsWithin h (get_or c.args.watchers.now k d)) (sym (c.in-Ok.ensures.history ∙ same))
+    (c.compare_all.ensures.within k d inside)

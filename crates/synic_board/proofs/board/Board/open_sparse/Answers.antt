@@ -11,5 +11,6 @@ pub invariant_of-result : goal.invariant_of-result
 invariant_of-result c = (
   subst IsSound (sym c.in-Ok.ensures.opened) (sound-opened c.args.processors 0 c.args.first_ticket),
   subst HasBuffers (sym c.in-Ok.ensures.opened) (buffers-opened c.args.processors 0 c.args.first_ticket),
-  subst HasPairedTimers (sym c.in-Ok.ensures.opened) (settled-opened c.args.processors 0 c.args.first_ticket (omega arith)),
+  subst HasPairedTimers (sym c.in-Ok.ensures.opened)
+      (settled-opened c.args.processors 0 c.args.first_ticket (omega arith)),
 )

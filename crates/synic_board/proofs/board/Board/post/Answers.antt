@@ -18,5 +18,7 @@ invariant_of-self c = (
 pub returns-clause-performs : goal.returns-clause-performs
 returns-clause-performs c =
     subst (λ (h : BoardModel). Performs h
-    (Post c.args.port c.args.kind (record { items = c.args.payload.now })) c.perform_post.new.self c.perform_post.result c.perform_post.new.notices) c.self.view_is
-    (performs _ _ _ _ _ c.requires c.perform_post.ensures.step c.self.invariant.0 c.self.invariant.1 (omega (arith, c.perform_post.ensures)) (omega (arith, c.perform_post.ensures)))
+    (Post c.args.port c.args.kind (record { items = c.args.payload.now })) c.perform_post.new.self
+    c.perform_post.result c.perform_post.new.notices) c.self.view_is
+    (performs _ _ _ _ _ c.requires c.perform_post.ensures.step c.self.invariant.0 c.self.invariant.1
+    (omega (arith, c.perform_post.ensures)) (omega (arith, c.perform_post.ensures)))

@@ -17,5 +17,8 @@ invariant_of-self c = (
 
 pub returns-clause-performs : goal.returns-clause-performs
 returns-clause-performs c =
-    subst (λ (h : BoardModel). Performs h (Store c.args.address (record { items = c.args.bytes.now })) c.perform_store.new.self c.perform_store.result c.perform_store.new.notices) c.self.view_is
-    (performs _ _ _ _ _ tt c.perform_store.ensures.step c.self.invariant.0 c.self.invariant.1 (omega (arith, c.perform_store.ensures)) (omega (arith, c.perform_store.ensures)))
+    subst (λ (h : BoardModel). Performs h
+    (Store c.args.address (record { items = c.args.bytes.now })) c.perform_store.new.self c.perform_store.result
+    c.perform_store.new.notices) c.self.view_is
+    (performs _ _ _ _ _ tt c.perform_store.ensures.step c.self.invariant.0 c.self.invariant.1
+    (omega (arith, c.perform_store.ensures)) (omega (arith, c.perform_store.ensures)))

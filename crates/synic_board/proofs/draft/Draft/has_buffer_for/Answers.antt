@@ -9,5 +9,6 @@ pub returns : goal.returns
 returns c =
     let target = c.if-not-targets.ensures.0 refl in
     has-free c.args.self.now c.args.number c.args.vp c.args.sint c.in-Messages.buffers c.port_used.result c.in-Some.port
-    (ap (λ (s : State). port_at (ports_of s) c.args.number) (sym c.self.view_is) ∙ sym c.port.ensures ∙ c.in-Some.is) target.0 target.1 c.in-Messages.is
+    (ap (λ (s : State). port_at (ports_of s) c.args.number) (sym c.self.view_is) ∙ sym c.port.ensures ∙ c.in-Some.is)
+    target.0 target.1 c.in-Messages.is
     (c.port_used.ensures ∙ ap (λ (s : State). port_used s.queues c.args.number) c.self.view_is)

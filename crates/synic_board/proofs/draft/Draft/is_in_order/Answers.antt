@@ -14,14 +14,19 @@ pub returns-in-Some : goal.returns-in-Some
 returns-in-Some c =
     let s : State = c.self.inside.machine.state in
     let q : List Message = queue_of s.queues c.args.vp c.args.sint in
-    let found = in-order s.next_ticket q (c.self.invariant.buffers.timed.order (source_number c.args.vp c.args.sint)) (Some c.in-Some.last.now)
+    let found = in-order s.next_ticket q (c.self.invariant.buffers.timed.order (source_number c.args.vp c.args.sint))
+    (Some c.in-Some.last.now)
     (sym c.last_message.ensures ∙ ap option_copied c.in-Some.is) c.args.ticket in
-    subst (λ (s : State). IsTrue (nat_lt c.ticket.result c.args.ticket) ↔ All (λ x. ticket_of x < c.args.ticket) (queue_of s.queues c.args.vp c.args.sint)) c.self.view_is
-    (subst (λ t. IsTrue (nat_lt t c.args.ticket) ↔ All (λ x. ticket_of x < c.args.ticket) q) (sym c.ticket.ensures) found)
+    subst (λ (s : State). IsTrue (nat_lt c.ticket.result c.args.ticket) ↔ All (λ x. ticket_of x < c.args.ticket)
+    (queue_of s.queues c.args.vp c.args.sint)) c.self.view_is
+    (subst (λ t. IsTrue (nat_lt t c.args.ticket) ↔ All (λ x. ticket_of x < c.args.ticket) q)
+    (sym c.ticket.ensures) found)
 
 pub returns-in-None : goal.returns-in-None
 returns-in-None c =
     let s : State = c.self.inside.machine.state in
-    let found = in-order s.next_ticket (queue_of s.queues c.args.vp c.args.sint) (c.self.invariant.buffers.timed.order (source_number c.args.vp c.args.sint)) None
+    let found = in-order s.next_ticket (queue_of s.queues c.args.vp c.args.sint)
+    (c.self.invariant.buffers.timed.order (source_number c.args.vp c.args.sint)) None
     (sym c.last_message.ensures ∙ ap option_copied c.in-None.is) c.args.ticket in
-    subst (λ (s : State). IsTrue true ↔ All (λ x. ticket_of x < c.args.ticket) (queue_of s.queues c.args.vp c.args.sint)) c.self.view_is found
+    subst (λ (s : State). IsTrue true ↔ All (λ x. ticket_of x < c.args.ticket)
+    (queue_of s.queues c.args.vp c.args.sint)) c.self.view_is found

@@ -11,17 +11,23 @@ pub returns-then-is_in_order : goal.returns-then-is_in_order
 returns-then-is_in_order c =
     let message = c.if-not-is_message.ensures.0 refl in
     let home = c.if-not-is_home.ensures.0 refl in
-    let buffer = subst (λ (s : State). HasBuffer s.queues c.args.message.now) c.self.view_is (c.if-not-has_buffer.ensures.0 refl) in
-    let time = subst (λ m. HasExpired m c.args.sint c.args.message.now) (c.moment.ensures ∙ ap (λ (s : State). s.moment) c.self.view_is) (c.if-not-is_timely.ensures.0 refl) in
+    let buffer =
+    subst (λ (s : State). HasBuffer s.queues c.args.message.now) c.self.view_is
+    (c.if-not-has_buffer.ensures.0 refl) in
+    let time = subst (λ m. HasExpired m c.args.sint c.args.message.now)
+    (c.moment.ensures ∙ ap (λ (s : State). s.moment) c.self.view_is) (c.if-not-is_timely.ensures.0 refl) in
     let order = c.is_in_order.ensures.0 c.if-is_in_order.true in (
       λ loose. record {
         message = message;
         home = home.0;
         buffer = buffer;
         share = home.1;
-        ticket = subst (λ t. IsUnplaced c.args.self.now t) c.ticket-then-is_in_order.ensures (c.is_unplaced.ensures.0 loose);
-        order = subst (λ t. All (λ x. ticket_of x < t) (queue_of c.args.self.now.queues c.args.vp c.args.sint)) c.ticket.ensures order;
+        ticket = subst (λ t. IsUnplaced c.args.self.now t) c.ticket-then-is_in_order.ensures
+            (c.is_unplaced.ensures.0 loose);
+        order = subst (λ t. All (λ x. ticket_of x < t) (queue_of c.args.self.now.queues c.args.vp c.args.sint))
+            c.ticket.ensures order;
         time = time;
       },
-      λ may. c.is_unplaced.ensures.1 (subst (λ t. IsUnplaced c.args.self.now t) (sym c.ticket-then-is_in_order.ensures) may.ticket),
+      λ may. c.is_unplaced.ensures.1
+          (subst (λ t. IsUnplaced c.args.self.now t) (sym c.ticket-then-is_in_order.ensures) may.ticket),
     )

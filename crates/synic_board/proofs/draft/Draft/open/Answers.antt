@@ -8,4 +8,5 @@ pub invariant_of-result : goal.invariant_of-result
 invariant_of-result c =
     let s : State = opened c.args.processors c.args.pages c.args.next_ticket in
     subst (λ (s : State). IsDraft s c.new.result.items) (sym c.in-Ok.ensures.opened)
-    (subst (λ (ts : List ℕ). IsDraft s ts) (sym c.new.ensures.items) (draft-opened c.args.processors c.args.pages c.args.next_ticket (omega arith)))
+    (subst (λ (ts : List ℕ). IsDraft s ts) (sym c.new.ensures.items)
+    (draft-opened c.args.processors c.args.pages c.args.next_ticket (omega arith)))

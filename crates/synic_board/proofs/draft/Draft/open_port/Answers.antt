@@ -8,4 +8,5 @@ pub invariant_of-self : goal.invariant_of-self
 invariant_of-self c =
     let s = c.self.inside.machine.state in
     let tickets = c.self.inside.tickets.items in
-    subst (λ (o : Outcome). IsDraft o.0 tickets) (sym c.open_port.ensures.step) (draft-port s c.args.port c.args.vp c.args.sint c.args.shape tickets c.self.invariant)
+    subst (λ (o : Outcome). IsDraft o.0 tickets) (sym c.open_port.ensures.step)
+    (draft-port s c.args.port c.args.vp c.args.sint c.args.shape tickets c.self.invariant)

@@ -8,4 +8,5 @@ pub invariant_of-self : goal.invariant_of-self
 invariant_of-self c =
     let s = c.self.inside.machine.state in
     let tickets = c.self.inside.tickets.items in
-    subst (λ (o : Outcome). IsDraft o.0 tickets) (sym c.write_control.ensures.state) (draft-regs s c.args.vp _ tickets c.self.invariant)
+    subst (λ (o : Outcome). IsDraft o.0 tickets) (sym c.write_control.ensures.state)
+    (draft-regs s c.args.vp _ tickets c.self.invariant)

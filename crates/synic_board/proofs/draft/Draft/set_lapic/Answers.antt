@@ -8,4 +8,5 @@ pub invariant_of-self : goal.invariant_of-self
 invariant_of-self c =
     let s = c.self.inside.machine.state in
     subst (λ (s : State). IsDraft s c.self.inside.tickets.items) (sym c.restore_lapic.ensures)
-    (draft-processor s c.args.vp c.args.lapic c.self.inside.tickets.items (omega (arith, ap processors c.self.view_is, c.requires)) c.self.invariant)
+    (draft-processor s c.args.vp c.args.lapic c.self.inside.tickets.items
+    (omega (arith, ap processors c.self.view_is, c.requires)) c.self.invariant)

@@ -8,4 +8,5 @@ pub invariant_of-self : goal.invariant_of-self
 invariant_of-self c =
     let s = c.self.inside.machine.state in
     let tickets = c.self.inside.tickets.items in
-    subst (λ (s : State). IsDraft s tickets) (sym c.write_overlay.ensures.state) (draft-regs s c.args.vp _ tickets c.self.invariant)
+    subst (λ (s : State). IsDraft s tickets) (sym c.write_overlay.ensures.state)
+    (draft-regs s c.args.vp _ tickets c.self.invariant)

@@ -8,5 +8,7 @@ pub invariant_of-self : goal.invariant_of-self
 invariant_of-self c =
     let s = c.self.inside.machine.state in
     let tickets = c.self.inside.tickets.items in
-    subst (λ (s : State). IsDraft s tickets) (sym c.restore_own.ensures) (draft-own s c.args.vp c.args.kind c.args.at c.args.bytes.now tickets
-    (omega (arith, ap processors c.self.view_is, c.requires.on)) c.requires.inside (c.if-not-has_no_tickets.ensures.0 refl) c.self.invariant)
+    subst (λ (s : State). IsDraft s tickets) (sym c.restore_own.ensures)
+    (draft-own s c.args.vp c.args.kind c.args.at c.args.bytes.now tickets
+    (omega (arith, ap processors c.self.view_is, c.requires.on)) c.requires.inside
+    (c.if-not-has_no_tickets.ensures.0 refl) c.self.invariant)

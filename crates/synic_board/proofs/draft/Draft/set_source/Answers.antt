@@ -9,4 +9,5 @@ pub invariant_of-self : goal.invariant_of-self
 invariant_of-self c =
     let s = c.self.inside.machine.state in
     let tickets = c.self.inside.tickets.items in
-    subst (λ (o : Outcome). IsDraft o.0 tickets) (sym c.write_source.ensures.step) (draft-stored s c.args.vp (Source c.args.sint) c.args.value tickets c.self.invariant)
+    subst (λ (o : Outcome). IsDraft o.0 tickets) (sym c.write_source.ensures.step)
+    (draft-stored s c.args.vp (Source c.args.sint) c.args.value tickets c.self.invariant)

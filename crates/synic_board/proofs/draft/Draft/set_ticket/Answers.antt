@@ -10,7 +10,10 @@ pub invariant_of-self-2 : goal.invariant_of-self-2
 invariant_of-self-2 c =
     let s = c.self.inside.machine.state in
     let tickets = c.self.inside.tickets.items in
-    let may = subst (λ (s : State). MayOccupy s c.args.vp c.args.sint c.args.ticket) (sym c.self.view_is) (c.if-not-may_occupy.ensures.0 refl) in
+    let may = subst (λ (s : State). MayOccupy s c.args.vp c.args.sint c.args.ticket) (sym c.self.view_is)
+    (c.if-not-may_occupy.ensures.0 refl) in
     subst (λ (s : State). IsDraft s c.push.new.self.items) (sym c.restore_ticket.ensures)
-    (subst (λ (ts : List ℕ). IsDraft (with_slot_ticket s c.args.vp c.args.sint (Some c.args.ticket)) ts) (sym c.in_ok-push.ensures.items)
-    (draft-ticket s c.args.vp c.args.sint c.args.ticket tickets (omega (arith, ap processors c.self.view_is, c.requires)) (omega arith) may c.self.invariant))
+    (subst (λ (ts : List ℕ). IsDraft (with_slot_ticket s c.args.vp c.args.sint (Some c.args.ticket)) ts)
+    (sym c.in_ok-push.ensures.items)
+    (draft-ticket s c.args.vp c.args.sint c.args.ticket tickets
+    (omega (arith, ap processors c.self.view_is, c.requires)) (omega arith) may c.self.invariant))

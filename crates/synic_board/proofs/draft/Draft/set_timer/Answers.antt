@@ -23,7 +23,11 @@ invariant_of-self c = by c.restore_timer.result refl
     by : (b : Bool) → c.restore_timer.result ≡ b → IsDraft c.restore_timer.new.self.state c.self.inside.tickets.items
     by true is =
         let may : MayCount s x = record { sound = c.restore_timer.ensures.valid.0 is; near = near } in
-        subst (λ (s : State). IsDraft s c.self.inside.tickets.items) (sym (c.restore_timer.ensures.restored ∙ ap (λ b. if b then with_saved_timer s c.args.timer x else s) is))
-        (draft-timer s c.args.timer x c.self.inside.tickets.items (omega (arith, ap processors c.self.view_is, c.requires)) (omega arith) may c.self.invariant)
+        subst (λ (s : State). IsDraft s c.self.inside.tickets.items)
+        (sym (c.restore_timer.ensures.restored ∙ ap (λ b. if b then with_saved_timer s c.args.timer x else s) is))
+        (draft-timer s c.args.timer x c.self.inside.tickets.items
+        (omega (arith, ap processors c.self.view_is, c.requires)) (omega arith) may c.self.invariant)
     by false is =
-        subst (λ (s : State). IsDraft s c.self.inside.tickets.items) (sym (c.restore_timer.ensures.restored ∙ ap (λ b. if b then with_saved_timer s c.args.timer x else s) is)) c.self.invariant
+        subst (λ (s : State). IsDraft s c.self.inside.tickets.items)
+        (sym (c.restore_timer.ensures.restored ∙ ap (λ b. if b then with_saved_timer s c.args.timer x else s) is))
+        c.self.invariant

@@ -7,4 +7,5 @@ use Rattle.synic_board.proofs.machine.Machine.attempt_due.Goals as goal
 
 pub mode-mode-requires : goal.mode-mode-requires
 mode-mode-requires c = due-is_some c.self.inside.timers c.args.timer c.self.inside.moment
-    (subst (λ (h : BoardModel). IsTrue (is_due_in (bank_of h.state) c.args.timer h.state.moment)) (sym c.self.view_is) c.requires.is_due)
+    (subst (λ (h : BoardModel). IsTrue (is_due_in (bank_of h.state) c.args.timer h.state.moment))
+    (sym c.self.view_is) c.requires.is_due)

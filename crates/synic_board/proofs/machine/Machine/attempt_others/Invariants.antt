@@ -5,4 +5,6 @@ use Rattle.synic_board.proofs.Trying.{IsTrying}
 use Rattle.synic_board.proofs.machine.Machine.attempt_others.Given as goal
 
 abbrev pub invariant-loop-timer : goal.invariant-loop-timer
-invariant-loop-timer l = IsTrying l.fn.self l.fn.notices l.fn.left (filter (is_other l.tried) l.timers) l.self l.notices l.left (filter (is_other l.tried) (drop l.timer-index l.timers))
+invariant-loop-timer l =
+    IsTrying l.fn.self l.fn.notices l.fn.left (filter (is_other l.tried) l.timers) l.self l.notices l.left
+    (filter (is_other l.tried) (drop l.timer-index l.timers))

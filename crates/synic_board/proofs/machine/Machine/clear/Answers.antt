@@ -15,10 +15,13 @@ returns-clause-state c =
     let a : List Regs = set s.regs p (with_value (regs_of s p) Sim 0) in
     let one : State = record s { regs = a } in
     let b = with_value (regs_of one p) Sief 0 in
-    let regs : set (set a p b) p reset_regs ≡ set s.regs p reset_regs = set-set a p b reset_regs ∙ set-set s.regs p (with_value (regs_of s p) Sim 0) reset_regs in
+    let regs : set (set a p b) p reset_regs ≡ set s.regs p reset_regs =
+    set-set a p b reset_regs ∙ set-set s.regs p (with_value (regs_of s p) Sim 0) reset_regs in
     let first = c.write_overlay.ensures.state in
-    let second = c.write_overlay-2.ensures.state ∙ ap (λ (t : State). with_regs t p (with_value (regs_of t p) Sief 0)) first in
-    let third = c.clear_registers.ensures.state ∙ ap (λ (t : State). with_regs t p reset_regs) second ∙ ap (λ (rs : List Regs). record s { regs = rs }) regs in
+    let second =
+    c.write_overlay-2.ensures.state ∙ ap (λ (t : State). with_regs t p (with_value (regs_of t p) Sief 0)) first in
+    let third = c.clear_registers.ensures.state ∙ ap (λ (t : State). with_regs t p reset_regs) second
+    ∙ ap (λ (rs : List Regs). record s { regs = rs }) regs in
     let fourth = c.clear_lapic.ensures.state ∙ ap (λ (t : State). with_apic t p empty_apic) third in
     let fifth = c.clear_timers.ensures.state ∙ ap (λ (t : State). with_bank t (bank_reset (bank_of t) p)) fourth in
     c.clear_pages.ensures.state ∙ ap (λ (t : State). with_space t (after_clearing (space_of t) p)) fifth

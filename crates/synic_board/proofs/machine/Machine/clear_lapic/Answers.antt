@@ -5,5 +5,7 @@ use Rattle.synic_board.proofs.Restored.{kept-lapic}
 use Rattle.synic_board.proofs.machine.Machine.clear_lapic.Goals as goal
 
 pub invariant_of-self : goal.invariant_of-self
-invariant_of-self c = kept-lapic c.self.inside c.number.result c.args.vp c.new.result _ c.write.new.self c.self.invariant c.number.ensures.value
+invariant_of-self c =
+    kept-lapic c.self.inside c.number.result c.args.vp c.new.result _ c.write.new.self c.self.invariant
+    c.number.ensures.value
     (sym (ap next c.new.ensures ∙ next-empty)) c.write.ensures

@@ -21,10 +21,12 @@ returns-then-delivers_at_once c =
     let first = c.post_at_once.ensures in
     let second = c.raise.ensures in
     let image = sym (post-image s.next_ticket c.args.port c.args.kind s.moment payload false) in
-    let once = at-once s p i (posted_message s c.args.port c.args.kind payload) (sym c.delivers_at_once.ensures.answer ∙ c.if-delivers_at_once.true) c.delivers_at_once.ensures.queue in
+    let once = at-once s p i (posted_message s c.args.port c.args.kind payload)
+    (sym c.delivers_at_once.ensures.answer ∙ c.if-delivers_at_once.true) c.delivers_at_once.ensures.queue in
     record {
       effect = chained _ _ _ _ _ (filled bytes) (λ t. raised t p i) first.effect second.effect
-          ∙ ap (λ b. preceded c.args.notices.now (after (filled b) (raised (filled b).0 p i))) image ∙ ap (preceded c.args.notices.now) (sym once);
+          ∙ ap (λ b. preceded c.args.notices.now (after (filled b) (raised (filled b).0 p i))) image
+          ∙ ap (preceded c.args.notices.now) (sym once);
       writes_monotone = omega (arith, first.writes_monotone, second.writes_monotone);
       bound = omega (arith, first.bound, second.bound);
     }

@@ -14,9 +14,17 @@ use Rattle.synic_board.proofs.AtOnce.{at-once, only-marked, timer-image}
 use Rattle.synic_board.proofs.Folds.{chained}
 use Rattle.synic_board.proofs.machine.Machine.deliver_timer.Goals as goal
 
-on_board : (b : Inside) (h : BoardModel) (p i : ℕ) → MachineInvariant b → model_of b ≡ h → p < processors h.state → i < 16 → source_number p i < length h.state.queues
+on_board : (b : Inside) (h : BoardModel) (p i : ℕ) → MachineInvariant b → model_of b ≡ h → p < processors h.state
+    → i < 16 → source_number p i < length h.state.queues
 on_board b h p i invariant view on low =
-    omega (arith, invariant.queues, on, low, ap (λ (m : BoardModel). processors m.state) view, ap (λ (m : BoardModel). length m.state.queues) view)
+    omega (
+      arith,
+      invariant.queues,
+      on,
+      low,
+      ap (λ (m : BoardModel). processors m.state) view,
+      ap (λ (m : BoardModel). length m.state.queues) view,
+    )
 
 pub returns-then-count-eq0 : goal.returns-then-count-eq0
 returns-then-count-eq0 c =
@@ -28,15 +36,19 @@ returns-then-count-eq0 c =
     let first = c.expiry_at_once.ensures in
     let second = c.raise.ensures in
     let image = sym (timer-image s.next_ticket c.args.timer c.args.expiration s.moment false) in
-    let within = on_board c.self.inside c.args.self.now p i c.self.invariant c.self.view_is c.requires.on (omega arith) in
+    let within =
+    on_board c.self.inside c.args.self.now p i c.self.invariant c.self.view_is c.requires.on (omega arith) in
     let on : delivers s p ≡ true = sym c.delivers.ensures ∙ c.if-not-delivers.false in
     let empty : is_slot_empty s p i ≡ true = sym c.is_slot_empty.ensures ∙ c.if-not-is_slot_empty.false in
-    let none : length (queue_of s.queues p i) ≡ 0 = sym (ap (λ (h : BoardModel). length (queue_of h.state.queues p i)) c.self.view_is) ∙ sym c.count.ensures.value ∙ c.if-count-eq0.true in
+    let none : length (queue_of s.queues p i) ≡ 0 =
+    sym (ap (λ (h : BoardModel). length (queue_of h.state.queues p i)) c.self.view_is) ∙ sym c.count.ensures.value
+    ∙ c.if-count-eq0.true in
     let free : delivers_at_once s p i ≡ true = (λ j. on j && not (nat_lt 0 (none j)) && empty j) in
     let once = at-once s p i (expired_message s c.args.timer c.args.expiration) free within in
     record {
       effect = chained _ _ _ _ _ (filled bytes) (λ t. raised t p i) first.effect second.effect
-          ∙ ap (λ b. preceded c.args.notices.now (after (filled b) (raised (filled b).0 p i))) image ∙ ap (preceded c.args.notices.now) (sym once);
+          ∙ ap (λ b. preceded c.args.notices.now (after (filled b) (raised (filled b).0 p i))) image
+          ∙ ap (preceded c.args.notices.now) (sym once);
       writes_monotone = omega (arith, first.writes_monotone, second.writes_monotone);
       bound = omega (arith, first.bound, second.bound);
     }
@@ -49,12 +61,14 @@ returns-then-not-is_slot_empty c =
     let message = expired_message s c.args.timer c.args.expiration in
     let first = c.accept_expiry.ensures.accepted in
     let second = c.mark.ensures in
-    let within = on_board c.self.inside c.args.self.now p i c.self.invariant c.self.view_is c.requires.on (omega arith) in
+    let within =
+    on_board c.self.inside c.args.self.now p i c.self.invariant c.self.view_is c.requires.on (omega arith) in
     let on : delivers s p ≡ true = sym c.delivers.ensures ∙ c.if-not-delivers.false in
     let occupied : is_slot_empty s p i ≡ false = sym c.is_slot_empty.ensures ∙ c.if-not-is_slot_empty.true in
     let only = only-marked s p i message (λ j. on j && not (occupied j)) within in
     record {
-      effect = chained _ _ _ _ _ (accepted s p i message) (λ t. marked t p i) first.effect second.effect ∙ ap (preceded c.args.notices.now) (sym only);
+      effect = chained _ _ _ _ _ (accepted s p i message) (λ t. marked t p i) first.effect second.effect
+          ∙ ap (preceded c.args.notices.now) (sym only);
       writes_monotone = omega (arith, first.writes_monotone, second.writes_monotone);
       bound = omega (arith, first.bound, second.bound);
     }

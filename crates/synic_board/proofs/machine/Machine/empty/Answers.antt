@@ -14,11 +14,16 @@ numbered : (o : Option ℕ) (v n : ℕ) → o ≡ Some v → IfSome o (λ x. x �
 numbered o v n is value = subst (λ x. IfSome x (λ y. y ≡ n)) is value
 
 pub loop-number-init : goal.loop-number-init
-loop-number-init c = record { bound = omega arith; so_far = record { effect = emptied_none _ _ _; writes_monotone = omega arith; bound = omega arith } }
+loop-number-init c =
+    record {
+      bound = omega arith;
+      so_far = record { effect = emptied_none _ _ _; writes_monotone = omega arith; bound = omega arith };
+    }
 
 pub empty_slot-requires-clause-on : goal.empty_slot-requires-clause-on
 empty_slot-requires-clause-on c =
-    let same = ap (λ (x : Effect). processors x.0) c.loop-number.invariant.so_far.effect ∙ same_left c.args.self.now.state c.args.vp c.loop-number.number in
+    let same = ap (λ (x : Effect). processors x.0) c.loop-number.invariant.so_far.effect
+    ∙ same_left c.args.self.now.state c.args.vp c.loop-number.number in
     omega (arith, same, c.requires.on)
 
 pub empty_slot-requires-clause-room : goal.empty_slot-requires-clause-room
@@ -34,8 +39,10 @@ empty_slot-requires-clause-room c =
 
 pub empty_queue-requires-clause-on : goal.empty_queue-requires-clause-on
 empty_queue-requires-clause-on c =
-    let same = ap (λ (x : Effect). processors x.0) c.loop-number.invariant.so_far.effect ∙ same_left c.args.self.now.state c.args.vp c.loop-number.number in
-    let slot = ap (λ (x : Effect). processors x.0) c.empty_slot.ensures.effect ∙ slot-same c.loop-number.self.state c.args.vp c.unwrap-sint.result in
+    let same = ap (λ (x : Effect). processors x.0) c.loop-number.invariant.so_far.effect
+    ∙ same_left c.args.self.now.state c.args.vp c.loop-number.number in
+    let slot = ap (λ (x : Effect). processors x.0) c.empty_slot.ensures.effect
+    ∙ slot-same c.loop-number.self.state c.args.vp c.unwrap-sint.result in
     omega (arith, same, slot, c.requires.on)
 
 pub empty_queue-requires-clause-room : goal.empty_queue-requires-clause-room
@@ -47,9 +54,11 @@ empty_queue-requires-clause-room c =
     let is : v ≡ n = numbered _ v n c.unwrap-sint.ensures c.new.ensures.value in
     let was : c.loop-number.self.state ≡ e.0 = ap (λ (x : Effect). x.0) c.loop-number.invariant.so_far.effect in
     let emitted = ap (λ (x : Effect). length x.1) c.loop-number.invariant.so_far.effect in
-    let slot : (c.empty_slot.new.self.state, c.empty_slot.new.notices) ≡ preceded c.loop-number.notices (slot_emptied e.0 c.args.vp n) = c.empty_slot.ensures.effect
+    let slot : (c.empty_slot.new.self.state, c.empty_slot.new.notices)
+    ≡ preceded c.loop-number.notices (slot_emptied e.0 c.args.vp n) = c.empty_slot.ensures.effect
     ∙ (λ i. preceded c.loop-number.notices (slot_emptied (was i) c.args.vp (is i))) in
-    let queued : length (queue_of c.empty_slot.new.self.state.queues c.args.vp v) ≡ length (queue_of (slot_emptied e.0 c.args.vp n).0.queues c.args.vp n) =
+    let queued : length (queue_of c.empty_slot.new.self.state.queues c.args.vp v)
+    ≡ length (queue_of (slot_emptied e.0 c.args.vp n).0.queues c.args.vp n) =
     λ i. length (queue_of (slot i).0.queues c.args.vp (is i)) in
     omega (
       arith,
@@ -73,10 +82,26 @@ loop-number-preserved c =
     record {
       bound = omega (arith, c.loop-number-test.true);
       so_far = record {
-        effect = emptied_more s c.loop-number.self.state c.empty_slot.new.self.state c.empty_queue.new.self.state c.args.vp n v c.args.notices.now c.loop-number.notices
+        effect = emptied_more s c.loop-number.self.state c.empty_slot.new.self.state c.empty_queue.new.self.state
+            c.args.vp n v c.args.notices.now c.loop-number.notices
             c.empty_slot.new.notices c.empty_queue.new.notices
-            c.loop-number.invariant.so_far.effect (numbered _ v n c.unwrap-sint.ensures c.new.ensures.value) c.empty_slot.ensures.effect c.empty_queue.ensures.effect;
-        writes_monotone = omega (arith, c.loop-number.invariant.so_far.writes_monotone, c.empty_slot.ensures.writes, c.empty_queue.ensures.writes_monotone);
-        bound = omega (arith, c.loop-number.invariant.so_far.bound, c.empty_slot.ensures.writes, c.empty_queue.ensures.bound, more, longer);
+            c.loop-number.invariant.so_far.effect
+            (numbered _ v n c.unwrap-sint.ensures c.new.ensures.value) c.empty_slot.ensures.effect
+            c.empty_queue.ensures.effect;
+        writes_monotone =
+            omega (
+              arith,
+              c.loop-number.invariant.so_far.writes_monotone,
+              c.empty_slot.ensures.writes,
+              c.empty_queue.ensures.writes_monotone,
+            );
+        bound = omega (
+          arith,
+          c.loop-number.invariant.so_far.bound,
+          c.empty_slot.ensures.writes,
+          c.empty_queue.ensures.bound,
+          more,
+          longer,
+        );
       };
     }

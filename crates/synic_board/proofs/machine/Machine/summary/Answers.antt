@@ -8,5 +8,8 @@ use Rattle.synic_board.proofs.machine.Machine.summary.Goals as goal
 pub returns-clause-sizes : goal.returns-clause-sizes
 returns-clause-sizes c =
     let state = state_of c.self.inside in
-    let emitted = subst (λ (v : Values). HasSizes (processors state) (length state.pages) v) (sym c.self.invariant.summary) (has_sizes c.self.inside c.self.invariant) in
-    subst (λ (h : BoardModel). HasSizes (processors h.state) (length h.state.pages) c.self.inside.summary.values) c.self.view_is emitted
+    let emitted =
+    subst (λ (v : Values). HasSizes (processors state) (length state.pages) v) (sym c.self.invariant.summary)
+    (has_sizes c.self.inside c.self.invariant) in
+    subst (λ (h : BoardModel). HasSizes (processors h.state) (length h.state.pages) c.self.inside.summary.values)
+    c.self.view_is emitted

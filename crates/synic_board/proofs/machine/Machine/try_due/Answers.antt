@@ -13,37 +13,50 @@ less n true some is = omega (arith, some)
 less n false some is = absurd (cc)
 
 -- whether a timer is due, by the fields
-not-due : {was now : BoardModel} {b : Bool} (t : ℕ × ℕ) → was ≡ now → b ≡ is_due_in (bank_of was.state) t was.state.moment → b ≡ false → is_due_in (bank_of now.state) t now.state.moment ≡ false
-not-due {was} {now} {b} t view is never = sym (ap (λ (h : BoardModel). is_due_in (bank_of h.state) t h.state.moment) view) ∙ sym is ∙ never
+not-due : {was now : BoardModel} {b : Bool} (t : ℕ × ℕ) → was ≡ now
+    → b ≡ is_due_in (bank_of was.state) t was.state.moment → b ≡ false
+    → is_due_in (bank_of now.state) t now.state.moment ≡ false
+not-due {was} {now} {b} t view is never =
+    sym (ap (λ (h : BoardModel). is_due_in (bank_of h.state) t h.state.moment) view) ∙ sym is ∙ never
 
 pub loop-timer-init : goal.loop-timer-init
-loop-timer-init c = (omega arith, starts-trying c.args.self.now c.args.notices.now most_expiries (due_now c.args.self.now.state))
+loop-timer-init c =
+    (omega arith, starts-trying c.args.self.now c.args.notices.now most_expiries (due_now c.args.self.now.state))
 
 pub attempt_due-requires-clause-is_due : goal.attempt_due-requires-clause-is_due
-attempt_due-requires-clause-is_due c = first-is_due c.loop-timer.self c.in-Some.timer (omega arith) (sym (c.in-Some.ensures {u = tt}).first)
+attempt_due-requires-clause-is_due c =
+    first-is_due c.loop-timer.self c.in-Some.timer (omega arith) (sym (c.in-Some.ensures {u = tt}).first)
 
 pub returns : goal.returns
-returns c = tried-all _ _ _ _ _ _ _ _ c.loop-timer.invariant.1 (none-due c.loop-timer.self.state (sym c.first_due.ensures.first ∙ c.in_default.is))
+returns c = tried-all _ _ _ _ _ _ _ _ c.loop-timer.invariant.1
+    (none-due c.loop-timer.self.state (sym c.first_due.ensures.first ∙ c.in_default.is))
 
 pub returns-then-left-eq0 : goal.returns-then-left-eq0
 returns-then-left-eq0 c =
     let first = sym (c.in-Some.ensures {u = tt}).first in
-    let h = tries-due c.loop-timer.self c.in-Some.timer (omega arith) first _ _ _ _ _ _ c.loop-timer.invariant.1 c.loop-timer.invariant.0 _ _ c.attempt_due.ensures.effected _ c.attempt_due.ensures.ready in
+    let h = tries-due c.loop-timer.self c.in-Some.timer
+    (omega arith) first _ _ _ _ _ _ c.loop-timer.invariant.1 c.loop-timer.invariant.0 _ _
+    c.attempt_due.ensures.effected _ c.attempt_due.ensures.ready in
     tried-most _ _ _ _ _ _ _ _ h c.if-left-eq0.true
 
 pub returns-in_default-first_due : goal.returns-in_default-first_due
 returns-in_default-first_due c =
     let first = sym (c.in-Some.ensures {u = tt}).first in
-    let h = tries-due c.loop-timer.self c.in-Some.timer (omega arith) first _ _ _ _ _ _ c.loop-timer.invariant.1 c.loop-timer.invariant.0 _ _ c.attempt_due.ensures.effected _ c.attempt_due.ensures.ready in
-    let all = without-first c.loop-timer.self c.in-Some.timer (omega arith) first c.attempt_due.new.self _ _ c.attempt_due.ensures.effected in
-    let none = none-due c.attempt_due.new.self.state (sym c.first_due-in-Some.ensures.first ∙ c.in_default-first_due.is) in
+    let h = tries-due c.loop-timer.self c.in-Some.timer
+    (omega arith) first _ _ _ _ _ _ c.loop-timer.invariant.1 c.loop-timer.invariant.0 _ _
+    c.attempt_due.ensures.effected _ c.attempt_due.ensures.ready in
+    let all = without-first c.loop-timer.self c.in-Some.timer
+    (omega arith) first c.attempt_due.new.self _ _ c.attempt_due.ensures.effected in
+    let none = none-due c.attempt_due.new.self.state
+    (sym c.first_due-in-Some.ensures.first ∙ c.in_default-first_due.is) in
     tried-all _ _ _ _ _ _ _ _ h (all ∙ ap (filter (is_other c.in-Some.timer)) none)
 
 pub loop-timer-smaller : goal.loop-timer-smaller
 loop-timer-smaller c =
     let first = sym (c.in-Some.ensures {u = tt}).first in
     let never = not-due c.in-Some.timer c.self.view_is c.is_due.ensures c.if-is_due.false in
-    let gone = expired c.loop-timer.self c.in-Some.timer (omega arith) first c.attempt_due.new.self _ _ c.attempt_due.ensures.effected never in
+    let gone = expired c.loop-timer.self c.in-Some.timer
+    (omega arith) first c.attempt_due.new.self _ _ c.attempt_due.ensures.effected never in
     less c.loop-timer.left c.attempt_due.result c.loop-timer.invariant.0 (c.attempt_due.ensures.ready ∙ gone)
 
 pub loop-timer-preserved : goal.loop-timer-preserved
@@ -51,21 +64,34 @@ loop-timer-preserved c =
     let first = sym (c.in-Some.ensures {u = tt}).first in
     let never = not-due c.in-Some.timer c.self.view_is c.is_due.ensures c.if-is_due.false in (
       omega (arith, c.if-left-eq0.false),
-      subst (IsTrying c.args.self.now c.args.notices.now most_expiries (due_now c.args.self.now.state) c.attempt_due.new.self c.attempt_due.new.notices (c.loop-timer.left - bool_byte c.attempt_due.result))
-          (due-others c.loop-timer.self c.in-Some.timer (omega arith) first c.attempt_due.new.self _ _ c.attempt_due.ensures.effected never)
-          (tries-due c.loop-timer.self c.in-Some.timer (omega arith) first _ _ _ _ _ _ c.loop-timer.invariant.1 c.loop-timer.invariant.0 _ _ c.attempt_due.ensures.effected _ c.attempt_due.ensures.ready),
+      subst (IsTrying c.args.self.now c.args.notices.now most_expiries
+          (due_now c.args.self.now.state) c.attempt_due.new.self c.attempt_due.new.notices
+          (c.loop-timer.left - bool_byte c.attempt_due.result))
+          (due-others c.loop-timer.self c.in-Some.timer
+          (omega arith) first c.attempt_due.new.self _ _ c.attempt_due.ensures.effected never)
+          (tries-due c.loop-timer.self c.in-Some.timer
+          (omega arith) first _ _ _ _ _ _ c.loop-timer.invariant.1 c.loop-timer.invariant.0 _ _
+          c.attempt_due.ensures.effected _ c.attempt_due.ensures.ready),
     )
 
 pub try_others-requires : goal.try_others-requires
 try_others-requires c =
     let first = sym (c.in-Some.ensures {u = tt}).first in
-    let h = tries-due c.loop-timer.self c.in-Some.timer (omega arith) first _ _ _ _ _ _ c.loop-timer.invariant.1 c.loop-timer.invariant.0 _ _ c.attempt_due.ensures.effected _ c.attempt_due.ensures.ready in
+    let h = tries-due c.loop-timer.self c.in-Some.timer
+    (omega arith) first _ _ _ _ _ _ c.loop-timer.invariant.1 c.loop-timer.invariant.0 _ _
+    c.attempt_due.ensures.effected _ c.attempt_due.ensures.ready in
     record { room = omega (arith, h.room, ap length c.requires) }
 
 pub returns-then-is_due : goal.returns-then-is_due
 returns-then-is_due c =
     let first = sym (c.in-Some.ensures {u = tt}).first in
-    let h = tries-due c.loop-timer.self c.in-Some.timer (omega arith) first _ _ _ _ _ _ c.loop-timer.invariant.1 c.loop-timer.invariant.0 _ _ c.attempt_due.ensures.effected _ c.attempt_due.ensures.ready in
-    let all = without-first c.loop-timer.self c.in-Some.timer (omega arith) first c.attempt_due.new.self _ _ c.attempt_due.ensures.effected in
-    tried-rest _ _ _ _ _ _ _ _ (subst (IsTrying c.args.self.now c.args.notices.now most_expiries (due_now c.args.self.now.state) c.attempt_due.new.self c.attempt_due.new.notices (c.loop-timer.left - bool_byte c.attempt_due.result)) all h)
+    let h = tries-due c.loop-timer.self c.in-Some.timer
+    (omega arith) first _ _ _ _ _ _ c.loop-timer.invariant.1 c.loop-timer.invariant.0 _ _
+    c.attempt_due.ensures.effected _ c.attempt_due.ensures.ready in
+    let all = without-first c.loop-timer.self c.in-Some.timer
+    (omega arith) first c.attempt_due.new.self _ _ c.attempt_due.ensures.effected in
+    tried-rest _ _ _ _ _ _ _ _
+    (subst (IsTrying c.args.self.now c.args.notices.now most_expiries
+    (due_now c.args.self.now.state) c.attempt_due.new.self c.attempt_due.new.notices
+    (c.loop-timer.left - bool_byte c.attempt_due.result)) all h)
     _ _ c.try_others.ensures

@@ -9,6 +9,9 @@ use Rattle.synic_board.proofs.machine.Machine.try_others.Goals as goal
 pub attempt_others-requires-clause-on : goal.attempt_others-requires-clause-on
 attempt_others-requires-clause-on c =
     let listed : List (ℕ × ℕ) = due_list (dues c.self.inside.timers) c.self.inside.moment in
-    let on : AllOn (state_of c.self.inside) listed = listed_on c.self.inside.timers c.self.inside.moment (length c.self.inside.lapics.items) c.self.invariant.timers in
+    let on : AllOn (state_of c.self.inside) listed =
+    listed_on c.self.inside.timers c.self.inside.moment
+    (length c.self.inside.lapics.items) c.self.invariant.timers in
     let same : listed ≡ c.as_slice.result.now = sym (c.as_slice.ensures.value ∙ c.due_list-due.ensures) in
-    subst (λ (h : BoardModel). AllOn h.state c.as_slice.result.now) c.self.view_is (subst (λ (ts : List (ℕ × ℕ)). AllOn (state_of c.self.inside) ts) same on)
+    subst (λ (h : BoardModel). AllOn h.state c.as_slice.result.now) c.self.view_is
+    (subst (λ (ts : List (ℕ × ℕ)). AllOn (state_of c.self.inside) ts) same on)

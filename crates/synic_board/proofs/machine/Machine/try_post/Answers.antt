@@ -10,6 +10,12 @@ deliver_post-requires-clause-buffer c =
     let n = length b.lapics.items in
     let shown = ap (λ (h : BoardModel). length h.state.queues) c.self.view_is in
     let all : processors_of c.args.self.now.state.queues ≡ n = omega (arith, shown, c.self.invariant.queues) in (
-      omega (arith, c.in-Ok.ensures.known, c.self.invariant.port_count, at-most n (nat_eq b.page_count 0), ap most_ports all),
+      omega (
+        arith,
+        c.in-Ok.ensures.known,
+        c.self.invariant.port_count,
+        at-most n (nat_eq b.page_count 0),
+        ap most_ports all,
+      ),
       c.in_default.ensures.buffer,
     )

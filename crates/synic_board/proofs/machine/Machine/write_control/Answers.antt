@@ -12,7 +12,8 @@ pub invariant_of-self : goal.invariant_of-self
 invariant_of-self c =
     let rs = c.self.inside.regs.items in
     let on = ap (λ (h : BoardModel). processors h.state) c.self.view_is in
-    let within : c.number.result < length rs = omega (arith, c.self.invariant.registers, on, c.requires, c.number.ensures.value) in
+    let within : c.number.result < length rs =
+    omega (arith, c.self.invariant.registers, on, c.requires, c.number.ensures.value) in
     let was = c.index_mut.ensures.value ∙ get_or_default rs c.number.result c.index_mut.result.now reset_regs within in
     let now = c.write.ensures.after ∙ ap (λ (r : Regs). record r { control = c.args.value }) was in
     let sim = ap (λ (r : Regs). r.sim) now in
@@ -31,6 +32,9 @@ invariant_of-self c =
       queues = c.self.invariant.queues;
       slots = c.self.invariant.slots;
       timers = c.self.invariant.timers;
-      summary = summary_of-kept c.self.inside.space.pages c.self.inside.space.own rs c.number.result c.write.new.self (map next c.self.inside.lapics.items)
-          (map length c.self.inside.queues) (least (dues c.self.inside.timers)) c.self.inside.summary.values within sim sief (ap auto_vectors now) c.self.invariant.summary;
+      summary = summary_of-kept c.self.inside.space.pages c.self.inside.space.own rs c.number.result c.write.new.self
+          (map next c.self.inside.lapics.items)
+          (map length c.self.inside.queues)
+          (least (dues c.self.inside.timers)) c.self.inside.summary.values within sim sief
+          (ap auto_vectors now) c.self.invariant.summary;
     }

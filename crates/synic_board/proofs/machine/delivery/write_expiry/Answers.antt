@@ -6,5 +6,8 @@ use Rattle.synic_board.proofs.machine.delivery.write_expiry.Goals as goal
 
 pub returns : goal.returns
 returns c =
-    let payload = c.timer_payload-payload.ensures ∙ ap (λ i. timer_payload i c.args.expiration c.args.moment) c.index.ensures.value in
-    c.write_message.ensures ∙ (λ j. after_slot c.args.space.now c.args.vp c.args.sint (message_bytes (c.timer_header.ensures j) (payload j)))
+    let payload =
+    c.timer_payload-payload.ensures
+    ∙ ap (λ i. timer_payload i c.args.expiration c.args.moment) c.index.ensures.value in
+    c.write_message.ensures ∙
+    (λ j. after_slot c.args.space.now c.args.vp c.args.sint (message_bytes (c.timer_header.ensures j) (payload j)))

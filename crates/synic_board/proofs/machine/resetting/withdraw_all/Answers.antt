@@ -6,8 +6,11 @@ use Rattle.synic_board.proofs.machine.resetting.withdraw_all.Goals as goal
 
 pub returns-clause-tickets : goal.returns-clause-tickets
 returns-clause-tickets c =
-    c.withdraw_front.ensures.tickets ∙ ap (map ticket_of) (take_all 320 (queue_of c.args.queues.now c.args.vp c.args.sint) c.requires.few)
+    c.withdraw_front.ensures.tickets
+    ∙ ap (map ticket_of) (take_all 320 (queue_of c.args.queues.now c.args.vp c.args.sint) c.requires.few)
 
 pub returns-clause-rest : goal.returns-clause-rest
 returns-clause-rest c =
-    c.withdraw_front.ensures.rest ∙ ap (with_queue c.args.queues.now c.args.vp c.args.sint) (drop_all 320 (queue_of c.args.queues.now c.args.vp c.args.sint) c.requires.few)
+    c.withdraw_front.ensures.rest
+    ∙ ap (with_queue c.args.queues.now c.args.vp c.args.sint)
+    (drop_all 320 (queue_of c.args.queues.now c.args.vp c.args.sint) c.requires.few)

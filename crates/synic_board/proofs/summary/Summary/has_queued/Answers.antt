@@ -9,4 +9,5 @@ has-queued queued p None none = λ i under. none i (omega arith) under
 has-queued queued p (Some i) (le, under, some, before) = (i, under, some)
 
 pub returns : goal.returns
-returns c = subst (HasQueued c.args.self.now.values.queued c.args.vp) (sym c.is_some.ensures) (has-queued _ _ _ c.waiting_from.ensures)
+returns c = subst (HasQueued c.args.self.now.values.queued c.args.vp) (sym c.is_some.ensures)
+    (has-queued _ _ _ c.waiting_from.ensures)

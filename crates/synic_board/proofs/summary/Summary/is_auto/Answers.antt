@@ -13,4 +13,5 @@ returns-in-None c =
     let none = c.in-None.ensures.lookup.0 in
     let long : length c.deref.result.now ≤ c.number.result = grind (arith, nat_tests) in
     let above : length c.args.self.now.values.autos ≤ c.args.vp = omega (arith, c.number.ensures.value) in
-    sym (ap (λ s. set.contains s c.args.vector) (get_or-eq_default c.args.self.now.values.autos set.empty above) ∙ set.contains-empty nat_cmp c.args.vector)
+    sym (ap (λ s. set.contains s c.args.vector) (get_or-eq_default c.args.self.now.values.autos set.empty above)
+    ∙ set.contains-empty nat_cmp c.args.vector)

@@ -15,7 +15,8 @@ returns c =
         sixteen = c.are_words.ensures.count;
         sources = λ k d within. (
           c.are_words.ensures.words k d within,
-          subst (λ word. is_legal word ≡ true) (get_or_default sints k 0 d within) (c.self.invariant.legal k (omega (arith, within, c.are_words.ensures.count))),
+          subst (λ word. is_legal word ≡ true) (get_or_default sints k 0 d within)
+              (c.self.invariant.legal k (omega (arith, within, c.are_words.ensures.count))),
         );
       };
     }

@@ -11,5 +11,8 @@ returns-in-Some-clause-read c =
 pub returns-in-Some-short-clause-read : goal.returns-in-Some-short-clause-read
 returns-in-Some-short-clause-read c =
     let taken = c.in-Some-short.ensures in
-    let same = rw c.in_default.is at c.eight.ensures in
-    (hex c.in-Some-short.n, sym same ∙ taken.1, hex_at-spelled c.args.most c.in-Some-short.n (omega (arith, c.ranges.most.fits)) taken.0)
+    let same = rw c.in_default.is at c.eight.ensures in (
+      hex c.in-Some-short.n,
+      sym same ∙ taken.1,
+      hex_at-spelled c.args.most c.in-Some-short.n (omega (arith, c.ranges.most.fits)) taken.0,
+    )

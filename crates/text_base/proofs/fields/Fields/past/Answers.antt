@@ -7,7 +7,8 @@ use Rattle.text_base.proofs.fields.Fields.past.Goals as goal
 pub returns-then-end-text-clause-found : goal.returns-then-end-text-clause-found
 returns-then-end-text-clause-found c =
     let all = take_all c.args.end c.args.text.now (omega (arith, c.if-end-text.true)) in
-    slice_split_none (λ b. nat_eq b 32) c.args.text.now (rw all at c.requires.field) ∙ ap (λ (field : List ℕ). field ∷ []) (sym all)
+    slice_split_none (λ b. nat_eq b 32) c.args.text.now (rw all at c.requires.field)
+    ∙ ap (λ (field : List ℕ). field ∷ []) (sym all)
 
 pub returns-clause-found : goal.returns-clause-found
 returns-clause-found c =

@@ -14,5 +14,7 @@ returns c =
     let all = entries-are c.args.self.now in
     let same = ap (sum_by (λ s. vec_len s)) c.as_slice.ensures.value in
     tells c.fit.result _ 65536
-    (λ yes. let fits = c.fit.ensures.0 yes in omega (arith, fits, same, all, steps, c.if-open-left.false, c.len-2.ensures, c.from-last.ensures))
-    (λ bound. c.fit.ensures.1 (omega (arith, bound, same, all, steps, c.if-open-left.false, c.len-2.ensures, c.from-last.ensures)))
+    (λ yes. let fits = c.fit.ensures.0 yes in
+    omega (arith, fits, same, all, steps, c.if-open-left.false, c.len-2.ensures, c.from-last.ensures))
+    (λ bound. c.fit.ensures.1
+    (omega (arith, bound, same, all, steps, c.if-open-left.false, c.len-2.ensures, c.from-last.ensures)))

@@ -9,7 +9,8 @@ returns-in_err-bytes c = rw c.from_residual.ensures (block-none c.args.fields.no
 pub returns-then-not-is_full : goal.returns-then-not-is_full
 returns-then-not-is_full c =
     let taken = c.in_ok-bytes.ensures in
-    block-short c.args.fields.now c.bytes.new.self c.bytes.new.out.items taken.0 taken.1 (sym c.if-not-is_full.ensures.value)
+    block-short c.args.fields.now c.bytes.new.self c.bytes.new.out.items taken.0 taken.1
+    (sym c.if-not-is_full.ensures.value)
 
 pub returns : goal.returns
 returns c =

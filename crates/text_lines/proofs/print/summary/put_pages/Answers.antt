@@ -4,4 +4,5 @@ use Rattle.text_lines.proofs.PrintLemmas.{numbered-end}
 use Rattle.text_lines.proofs.print.summary.put_pages.Goals as goal
 
 pub returns : goal.returns
-returns c = numbered-end page_lines c.loop-page.page c.args.summary.now.values.owners c.loop-page.out.items _ (omega arith) c.loop-page.invariant
+returns c = numbered-end page_lines c.loop-page.page c.args.summary.now.values.owners c.loop-page.out.items _
+    (omega arith) c.loop-page.invariant

@@ -8,9 +8,13 @@ use Rattle.text_lines.proofs.print.summary.put_summary.Goals as goal
 pub returns : goal.returns
 returns c =
     let values = c.args.summary.now.values in
-    let timer = c.in_ok-put_earliest.ensures ∙ ap (λ (earliest : Option (ℕ × (ℕ × ℕ))). c.put_autos.new.out.items ++ line_of (timer_line earliest)) c.earliest.ensures in
-    let last : c.put_queues.new.out.items ≡ c.put_pages.new.out.items ++ text_of (numbered queue_lines 0 values.queued) →
+    let timer = c.in_ok-put_earliest.ensures
+    ∙ ap (λ (earliest : Option (ℕ × (ℕ × ℕ))). c.put_autos.new.out.items ++ line_of (timer_line earliest))
+    c.earliest.ensures in
+    let last : c.put_queues.new.out.items
+    ≡ c.put_pages.new.out.items ++ text_of (numbered queue_lines 0 values.queued) →
     c.put_queues.new.out.items ≡ c.args.out.now.items ++ text_of (summary_lines values) =
-    parts values c.args.out.now.items c.put_nexts.new.out.items c.put_autos.new.out.items c.put_earliest.new.out.items c.put_pages.new.out.items
+    parts values c.args.out.now.items c.put_nexts.new.out.items c.put_autos.new.out.items c.put_earliest.new.out.items
+    c.put_pages.new.out.items
     c.put_queues.new.out.items c.in_ok-put_nexts.ensures c.in_ok-put_autos.ensures timer c.in_ok-put_pages.ensures in
     on_ok_weaker c.put_queues.result last c.put_queues.ensures

@@ -12,5 +12,6 @@ returns g c =
     let same : c.as_slice.result.now ≡ c.captures.own.now.items = search rules in (
       subst (λ (l : List (ℕ × ℕ)). HasRaised name l first.0 first.1.items) same c.in_ok-first.ensures,
       given _ _ (λ h. pair h.promise.board.now.name h.promise.script.now) (λ s. pair name s.items)
-          (λ h s x is kept. raised name h.promise.board.now.name h.promise.script.now s x is kept) raising c.captures.raises.now others c.in_ok-raising.ensures.scripts c.in_ok-others.ensures,
+          (λ h s x is kept. raised name h.promise.board.now.name h.promise.script.now s x is kept) raising
+          c.captures.raises.now others c.in_ok-raising.ensures.scripts c.in_ok-others.ensures,
     )
