@@ -11,7 +11,7 @@ mod vector;
 mod vp;
 
 pub use messages::{Message, PayloadBytes, PortShape};
-pub use notices::{Notice, Notices, ROOM};
+pub use notices::{MOST_NOTICES, Notice, Notices};
 pub use pages::{Bytes8, Kind, Owner};
 pub use refusal::Refusal;
 pub use sint::{Sint, source_number};

@@ -10,7 +10,7 @@ use std::marker::Model;
 
 /// The capacity of a list of notices. A reset emits at most 276: 16 for slots, 256 for buffers of
 /// ports and 4 for those of timers. Any other event emits at most 192. The rest is for events to come.
-pub const ROOM: usize = 320;
+pub const MOST_NOTICES: usize = 320;
 
 /// Something that an event did, in addition to its reply.
 #[derive(Clone, Copy, PartialEq, Eq, Debug)]
@@ -59,7 +59,7 @@ impl Notices {
     pub fn open(alloc: Global) -> Result<Notices, AllocError>
         ensures { IfOk result (λ n. n ≡ []) }
     {
-        let items = Vec::with_capacity(alloc, ROOM)?;
+        let items = Vec::with_capacity(alloc, MOST_NOTICES)?;
         Ok(Notices { items })
     }
 

@@ -67,12 +67,12 @@ pub fn run_crew<R: Threads + Wait + Sync, G: Gate + Sync>(
         (IsCrewEnd (opened setup.now.processors setup.now.pages setup.now.first_ticket) setup.now scripts.now) }
 {
     let fits = is_sized(setup, scripts);
-    judge(fits, setup, scripts)?;
+    check_crew(fits, setup, scripts)?;
     let opened = Board::open(alloc, setup.processors, setup.pages, setup.first_ticket);
     let Ok(board) = opened else {
         return Err(CrewFault::Memory);
     };
-    Ok(run_judged::<Brand, _, _>(rt, alloc, board, setup, scripts, gate)?)
+    Ok(run_checked::<Brand, _, _>(rt, alloc, board, setup, scripts, gate)?)
 }
 
 /// Runs a crew on a board in the state that it is in, as `run_crew` does on one of its own. Of the
@@ -92,12 +92,12 @@ pub fn run_crew_on<R: Threads + Wait + Sync, G: Gate + Sync>(
     ensures ended { IfOk result (IsCrewEnd board.state setup.now scripts.now) }
 {
     let fits = is_sized_on(board.processors(), setup, scripts);
-    judge(fits, setup, scripts)?;
-    Ok(run_judged::<Brand, _, _>(rt, alloc, board, setup, scripts, gate)?)
+    check_crew(fits, setup, scripts)?;
+    Ok(run_checked::<Brand, _, _>(rt, alloc, board, setup, scripts, gate)?)
 }
 
 /// Whether a crew may run. `fits` is whether its sizes are within the limits.
-fn judge(fits: bool, setup: &Setup, scripts: &Scripts) -> Result<(), CrewFault>
+fn check_crew(fits: bool, setup: &Setup, scripts: &Scripts) -> Result<(), CrewFault>
     ensures size { IsErrOf result CrewFault.BadSize ↔ (fits ≡ false) }
     ensures step { IsErrOf result CrewFault.BadStep ↔ (fits ≡ true) × (has_bad_step setup.now scripts.now ≡ true) }
     ensures ok { OnOk result ((fits ≡ true) × (has_bad_step setup.now scripts.now ≡ false)) }
@@ -112,7 +112,7 @@ fn judge(fits: bool, setup: &Setup, scripts: &Scripts) -> Result<(), CrewFault>
 }
 
 /// Runs a crew with valid sizes and steps on a board.
-fn run_judged<S: Origin, R: Threads + Wait + Sync, G: Gate + Sync>(
+fn run_checked<S: Origin, R: Threads + Wait + Sync, G: Gate + Sync>(
     rt: &R,
     alloc: Global,
     board: Board,

@@ -112,12 +112,12 @@ pub(crate) fn finish<S: Origin>(
         raised,
     } = worked;
     let ended = board.settle(actors, lines)?;
-    place(setup, ended, raised)
+    crew_end(setup, ended, raised)
 }
 
 /// The result of a crew, if the first and the last entries of its history are by actor 0, and the
 /// last absorbs left no bit.
-fn place(setup: &Setup, ended: Ended, raised: Vec<Vec<Raised>>) -> Result<CrewEnd, WorkFault>
+fn crew_end(setup: &Setup, ended: Ended, raised: Vec<Vec<Raised>>) -> Result<CrewEnd, WorkFault>
     ensures ended { IfOk result (λ c. c.ended ≡ ended) }
     ensures raised { IfOk result (λ c. c.raised ≡ raised) }
     ensures placed { IfOk result

@@ -18,7 +18,7 @@ use Rattle.text_image.specs.Image.{image, image_lines, body_lines, moment_lines,
 use Rattle.text_image.specs.Image.{lapic_lines, register_lines, guest_lines, own_lines, port_lines, timers_lines, queues_lines, slots_lines}
 use Rattle.text_image.specs.Pieces.{piece_fields}
 use Rattle.text_image.proofs.PieceLemmas.{reading-means, piece-means}
-use Rattle.text_restore.specs.Restoring.{Stage, Untitled, Titled, Body, place, place_of, Opens}
+use Rattle.text_restore.specs.Restoring.{Stage, Untitled, Titled, Body, rank, rank_of, Opens}
 use Rattle.text_restore.specs.Images.{IsImage}
 use Rattle.law_images.specs.States.{IsBoardState}
 use Rattle.text_restore.proofs.Short.{piece-written}
@@ -75,35 +75,35 @@ module _ (s : State) (h : IsBoardState s) where
   abbrev with_queues : State
   with_queues = record with_timers { queues = s.queues }
 
-  body-passed : Passes (point timed 0 (place 2 0 0 0)) (body_lines s) (point s (processors s) (place 10 0 0 0))
+  body-passed : Passes (point timed 0 (rank 2 0 0 0)) (body_lines s) (point s (processors s) (rank 10 0 0 0))
   body-passed =
-      passes-append (point timed 0 (place 2 0 0 0)) (point with_lapics n (place 3 0 0 0)) end
+      passes-append (point timed 0 (rank 2 0 0 0)) (point with_lapics n (rank 3 0 0 0)) end
       (each_below n (lapic_lines s)) _ (lapics-passed s h timed)
-      (passes-append (point with_lapics n (place 3 0 0 0)) (point with_registers n (place 4 0 0 0)) end
+      (passes-append (point with_lapics n (rank 3 0 0 0)) (point with_registers n (rank 4 0 0 0)) end
       (each_below n (register_lines s)) _ (regs-passed s h with_lapics refl)
-      (passes-append (point with_registers n (place 4 0 0 0)) (point with_guests n (place 5 0 0 0)) end
+      (passes-append (point with_registers n (rank 4 0 0 0)) (point with_guests n (rank 5 0 0 0)) end
       (each_below (length s.pages) (guest_lines s)) _ (guests-passed s h with_registers refl)
-      (passes-append (point with_guests n (place 5 0 0 0)) (point with_owns n (place 6 0 0 0)) end
+      (passes-append (point with_guests n (rank 5 0 0 0)) (point with_owns n (rank 6 0 0 0)) end
       (each_below n (own_lines s)) _
       (owns-passed s h with_guests refl (λ p i low. no-ticket (16 * n) (16 * p + i)))
-      (passes-append (point with_owns n (place 6 0 0 0)) (point with_ports n (place 7 0 0 0)) end
+      (passes-append (point with_owns n (rank 6 0 0 0)) (point with_ports n (rank 7 0 0 0)) end
       (each_below (length s.ports) (port_lines s)) _
       (ports-passed s h with_owns refl (port_count n (nat_eq (length s.pages) 0)) (sym h.shape.ports))
-      (passes-append (point with_ports n (place 7 0 0 0)) (point with_timers n (place 8 0 0 0)) end
+      (passes-append (point with_ports n (rank 7 0 0 0)) (point with_timers n (rank 8 0 0 0)) end
       (each_below n (timers_lines s)) _ (timers-passed s h with_ports refl refl)
-      (passes-append (point with_timers n (place 8 0 0 0)) (point with_queues n (place 9 0 0 0)) end
+      (passes-append (point with_timers n (rank 8 0 0 0)) (point with_queues n (rank 9 0 0 0)) end
       (each_below n (queues_lines s)) (each_below n (slots_lines s))
       (queues-passed s h with_timers refl refl refl (λ x. none-in x (16 * n)) refl)
       (slots-passed s h with_queues refl refl refl refl)))))))
     where
       end : Point
-      end = point s (processors s) (place 10 0 0 0)
+      end = point s (processors s) (rank 10 0 0 0)
 
   -- the last stage
   abbrev done : Stage
-  done = Body s (place_of pieces.End) (processors s)
+  done = Body s (rank_of pieces.End) (processors s)
 
-  end-walked : (last : ℕ) → last < place 10 0 0 0 → Walks (Body s last (processors s)) (end_fields ∷ []) done
+  end-walked : (last : ℕ) → last < rank 10 0 0 0 → Walks (Body s last (processors s)) (end_fields ∷ []) done
   end-walked last before = (
     done,
     piece-written pieces.End tt,
@@ -147,10 +147,10 @@ module _ (s : State) (h : IsBoardState s) where
     ),
   )
     where
-      first : Arrives (point board 0 (place 1 0 0 0)) 0 (moment_lines s.moment) (point timed 0 (place 2 0 0 0))
+      first : Arrives (point board 0 (rank 1 0 0 0)) 0 (moment_lines s.moment) (point timed 0 (rank 2 0 0 0))
       first = (moment-passed s h board).from 0 (omega arith)
 
-      rest : Arrives (point timed 0 (place 2 0 0 0)) first.now (body_lines s) (point s (processors s) (place 10 0 0 0))
+      rest : Arrives (point timed 0 (rank 2 0 0 0)) first.now (body_lines s) (point s (processors s) (rank 10 0 0 0))
       rest = body-passed.from first.now first.before
 
 pub accepted : (s : State) → IsBoardState s → IsImage (image s) s

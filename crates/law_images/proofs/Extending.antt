@@ -7,8 +7,8 @@ use Rattle.synic_board.specs.State.{State}
 use Rattle.text_image.specs.Image.{Lines}
 use Rattle.text_image.specs.declared.piece.Piece.{Piece}
 use Rattle.text_image.specs.Pieces.{piece_fields}
-use Rattle.text_restore.specs.Restoring.{place_of}
-use Rattle.law_images.proofs.Spots.{Section, IsSpot, place_at, AgreeElsewhere, IsEmptyAfter, AddsLine}
+use Rattle.text_restore.specs.Restoring.{rank_of}
+use Rattle.law_images.proofs.Spots.{Section, IsSpot, rank_at, AgreeElsewhere, IsEmptyAfter, AddsLine}
 use Rattle.law_images.proofs.Printed.{printed}
 
 -- a state of a board of n processors and m guest pages, with this next ticket
@@ -26,7 +26,7 @@ pub record IsShaped (n m ticket : ℕ) (s : State) : Type 0 where
   pub page_bytes : All (λ (page : List ℕ). length page ≡ 4096) s.pages
   pub own_bytes : All (λ (page : List ℕ). length page ≡ 4096) s.own
 
--- nothing is printed after a place
+-- nothing is printed after a rank
 abbrev pub IsBlank : ℕ → ℕ → State → ℕ → ℕ → Type 0
 IsBlank n m s last lapics = IsEmptyAfter n m last (printed s lapics)
 
@@ -39,8 +39,8 @@ pub record Extends (n m ticket : ℕ) (s : State) (lapics : ℕ) (x : Piece) (ne
   pub b : ℕ
   pub c : ℕ
   pub spot : IsSpot n m section a b c
-  pub is : place_of x ≡ place_at section a b c
-  pub frame : AgreeElsewhere n m (place_of x) (printed s lapics) (printed new after)
+  pub is : rank_of x ≡ rank_at section a b c
+  pub frame : AgreeElsewhere n m (rank_of x) (printed s lapics) (printed new after)
   pub added : printed new after section a b c ≡ printed s lapics section a b c ++ piece_fields x ∷ []
 
 -- the first line at a spot
@@ -48,9 +48,9 @@ pub first-added : (old new : Lines) (x : List (List ℕ)) → old ≡ [] → new
 first-added old new x empty is = is ∙ ap (λ (y : Lines). y ++ x ∷ []) (sym empty)
 
 pub extends-adds : (n m ticket : ℕ) (s : State) (last lapics : ℕ) (x : Piece) (new : State) (after : ℕ)
-    → IsBlank n m s last lapics → last ≤ place_of x →
+    → IsBlank n m s last lapics → last ≤ rank_of x →
     Extends n m ticket s lapics x new after
-    → AddsLine n m (printed s lapics) (printed new after) (place_of x) (piece_fields x)
+    → AddsLine n m (printed s lapics) (printed new after) (rank_of x) (piece_fields x)
 extends-adds n m ticket s last lapics x new after blank later h = record {
   section = h.section;
   a = h.a;
@@ -64,8 +64,8 @@ extends-adds n m ticket s last lapics x new after blank later h = record {
 }
 
 pub still-blank : (n m ticket : ℕ) (s : State) (last lapics : ℕ) (x : Piece) (new : State) (after : ℕ)
-    → IsBlank n m s last lapics → last ≤ place_of x →
-    Extends n m ticket s lapics x new after → IsBlank n m new (place_of x) after
+    → IsBlank n m s last lapics → last ≤ rank_of x →
+    Extends n m ticket s lapics x new after → IsBlank n m new (rank_of x) after
 still-blank n m ticket s last lapics x new after blank later h =
     λ σ i j k spot behind. h.frame σ i j k spot (λ e. omega (arith, e, behind))
     ∙ blank σ i j k spot (omega (arith, behind, later))

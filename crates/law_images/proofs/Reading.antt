@@ -16,7 +16,7 @@ use Rattle.text_image.specs.declared.piece.Piece.TheVariants as pieces
 use Rattle.text_image.specs.Image.{Lines, end_fields, image, image_lines}
 use Rattle.text_image.specs.Pieces.{piece_fields, IsPiece}
 use Rattle.text_image.proofs.PieceLemmas.{reading-means}
-use Rattle.text_restore.specs.Restoring.{Stage, Untitled, Titled, Body, place_of, lapics_after, Continues, Opens, Follows, IsLater, IsInTurn}
+use Rattle.text_restore.specs.Restoring.{Stage, Untitled, Titled, Body, rank_of, lapics_after, Continues, Opens, Follows, IsLater, IsInTurn}
 use Rattle.text_restore.specs.Images.{Leads, IsImage}
 use Rattle.law_images.proofs.Spots.{all_lines, all-empty, all-grow, before-end}
 use Rattle.law_images.proofs.Printed.{printed, titles, image-printed}
@@ -26,7 +26,7 @@ use Rattle.law_images.proofs.Steps.{IsInner, extends}
 
 -- the end line, if it was read
 abbrev ended : ℕ → Lines
-ended last = cond (last == place_of pieces.End) (end_fields ∷ []) []
+ended last = cond (last == rank_of pieces.End) (end_fields ∷ []) []
 
 abbrev so_far : ℕ → ℕ → ℕ → State → ℕ → ℕ → Lines
 so_far n m ticket s last lapics = titles n m ticket ++ (all_lines n m (printed s lapics) ++ ended last)
@@ -40,7 +40,7 @@ record IsRead (s : State) (last lapics : ℕ) (lines : Lines) : Type 0 where
   sizes : IsWithinLimits n m
   shaped : IsShaped n m ticket s
   blank : IsBlank n m s last lapics
-  full : last ≡ place_of pieces.End → lapics ≡ n
+  full : last ≡ rank_of pieces.End → lapics ≡ n
   same : lines ≡ so_far n m ticket s last lapics
 
 abbrev HasRead : Stage → Lines → Type 0
@@ -49,7 +49,7 @@ HasRead Titled lines = lines ≡ (codes "image" ∷ codes "1" ∷ []) ∷ []
 HasRead (Body s last lapics) lines = IsRead s last lapics lines
 
 -- a later piece is not before the last one
-late : (last : ℕ) (x : Piece) → IsInner x → IsLater last x → last ≤ place_of x
+late : (last : ℕ) (x : Piece) → IsInner x → IsLater last x → last ≤ rank_of x
 late last (pieces.Moment t) inner h = omega (arith, h)
 late last (pieces.Lapic p a) inner h = omega (arith, h)
 late last (pieces.Control p value) inner h = omega (arith, h)
@@ -63,9 +63,9 @@ late last (pieces.Queued p i m) inner h = h
 late last (pieces.Slot p i ticket) inner h = omega (arith, h)
 late last pieces.End inner h = absurd inner
 
-not-ended : (last : ℕ) → last < place_of pieces.End → ended last ≡ []
+not-ended : (last : ℕ) → last < rank_of pieces.End → ended last ≡ []
 not-ended last h =
-    let off : (last == place_of pieces.End) ≡ false =
+    let off : (last == rank_of pieces.End) ≡ false =
     grind (arith, nat_tests) in ap (λ (t : Bool). cond t (end_fields ∷ []) []) off
 
 -- a piece before the end
@@ -82,19 +82,19 @@ inner-read s last lapics x new lines inner fits h k =
     step = extends k.n k.m k.ticket s last lapics h.next k.sizes k.shaped k.blank x inner fits h.later
         (subst (λ (n : ℕ). IsInTurn n lapics x) k.shaped.apics h.turn) h.restores
 
-    low : place_of x < place_of pieces.End
+    low : rank_of x < rank_of pieces.End
     low = omega (
       arith,
       step.is,
       before-end k.n k.m k.sizes.processor_bound k.sizes.page_bound step.section step.a step.b step.c step.spot,
     )
 
-    later : last ≤ place_of x
+    later : last ≤ rank_of x
     later = late last x inner h.later
 
     grown : all_lines k.n k.m (printed h.next after) ≡ all_lines k.n k.m (printed s lapics) ++ piece_fields x ∷ []
     grown = all-grow k.n k.m k.sizes.processor_bound k.sizes.page_bound (printed s lapics) (printed h.next after)
-        (place_of x) (piece_fields x)
+        (rank_of x) (piece_fields x)
         (extends-adds k.n k.m k.ticket s last lapics x h.next after k.blank later step)
 
     longer : (front old now e e' read : Lines) (line : List (List ℕ)) → read ≡ front ++ (old ++ e)
@@ -103,7 +103,7 @@ inner-read s last lapics x new lines inner fits h k =
     longer front old now e e' read line is more none none' =
         rw (is, more, none, none') (simp (append_assoc, append-nil))
 
-    written : IsRead h.next (place_of x) after (lines ++ piece_fields x ∷ [])
+    written : IsRead h.next (rank_of x) after (lines ++ piece_fields x ∷ [])
     written = record {
       n = k.n;
       m = k.m;
@@ -113,8 +113,8 @@ inner-read s last lapics x new lines inner fits h k =
       blank = still-blank k.n k.m k.ticket s last lapics x h.next after k.blank later step;
       full = λ e. absurd (omega (arith, e, low));
       same = longer (titles k.n k.m k.ticket) (all_lines k.n k.m (printed s lapics))
-          (all_lines k.n k.m (printed h.next after)) (ended last) (ended (place_of x)) lines (piece_fields x)
-          k.same grown (not-ended last (omega (arith, later, low))) (not-ended (place_of x) low);
+          (all_lines k.n k.m (printed h.next after)) (ended last) (ended (rank_of x)) lines (piece_fields x)
+          k.same grown (not-ended last (omega (arith, later, low))) (not-ended (rank_of x) low);
     }
 
 -- the end
@@ -122,13 +122,13 @@ end-read : (s : State) (last lapics : ℕ) (new : Stage) (lines : Lines) → Con
     → IsRead s last lapics lines → HasRead new (lines ++ end_fields ∷ [])
 end-read s last lapics new lines h k =
     subst (λ (st : Stage). HasRead st (lines ++ end_fields ∷ [])) (sym h.stage)
-    (subst (λ (t : State). IsRead t (place_of pieces.End) lapics (lines ++ end_fields ∷ [])) (sym h.restores) written)
+    (subst (λ (t : State). IsRead t (rank_of pieces.End) lapics (lines ++ end_fields ∷ [])) (sym h.restores) written)
   where
     longer : (front old e read : Lines) → read ≡ front ++ (old ++ e) → e ≡ []
         → read ++ end_fields ∷ [] ≡ front ++ (old ++ end_fields ∷ [])
     longer front old e read is none = rw (is, none) (simp (append_assoc, append-nil))
 
-    written : IsRead s (place_of pieces.End) lapics (lines ++ end_fields ∷ [])
+    written : IsRead s (rank_of pieces.End) lapics (lines ++ end_fields ∷ [])
     written = record {
       n = k.n;
       m = k.m;
@@ -235,7 +235,7 @@ saved text s h =
     read : ReadsLines (joined (lines_of text)) h.stage []
     read = lines-read Untitled h.stage (lines_of text) [] h.leads refl
 
-    all-read : IsRead s (place_of pieces.End) h.complete.0 read.more → read.more ≡ image_lines s
+    all-read : IsRead s (rank_of pieces.End) h.complete.0 read.more → read.more ≡ image_lines s
     all-read w = w.same ∙ (λ i. titles (sym w.shaped.apics i) (sym w.shaped.pages i) (sym w.shaped.next i)
         ++ (all_lines (sym w.shaped.apics i) (sym w.shaped.pages i) (printed s ((w.full refl ∙ sym w.shaped.apics) i))
         ++ end_fields ∷ []))

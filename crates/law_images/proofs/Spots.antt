@@ -3,7 +3,7 @@
 use Rattle.std.proofs.Common.{◌≡◌, ◌≢◌, Bool, true, false, nat_eq, ℕ, zero, suc, ◌+◌, ◌*◌, ◌<◌, ◌≤◌, List, [], ◌∷◌, ◌++◌, refl, sym, subst, ◌∙◌, arith}
 use Rattle.event_ports.specs.Ports.{port_count}
 use Rattle.text_image.specs.Image.{Lines, each_below}
-use Rattle.text_restore.specs.Restoring.{place}
+use Rattle.text_restore.specs.Restoring.{rank}
 use Rattle.law_images.proofs.Growing.{each-same, each-empty, each-grows}
 
 -- the sections of an image, in its order
@@ -72,21 +72,21 @@ section_lines n m lines section =
 abbrev pub all_lines : ℕ → ℕ → Layout → Lines
 all_lines n m lines = each_below 9 (λ k. section_lines n m lines (section_of k))
 
--- the place of a spot; a page has sixteen blocks
-abbrev pub place_at : Section → ℕ → ℕ → ℕ → ℕ
-place_at section a b c = place (number section + 1) a b (256 * c)
+-- the rank of a spot; a page has sixteen blocks
+abbrev pub rank_at : Section → ℕ → ℕ → ℕ → ℕ
+rank_at section a b c = rank (number section + 1) a b (256 * c)
 
 abbrev pub IsSpot : ℕ → ℕ → Section → ℕ → ℕ → ℕ → Type 0
 IsSpot n m section a b c = (a < first_size n m section) × (b < second_size section) × (c < third_size section)
 
--- two layouts differ at this place at most
+-- two layouts differ at this rank at most
 abbrev pub AgreeElsewhere : ℕ → ℕ → ℕ → Layout → Layout → Type 0
 AgreeElsewhere n m at old new =
-    (σ : Section) (i j k : ℕ) → IsSpot n m σ i j k → place_at σ i j k ≢ at → new σ i j k ≡ old σ i j k
+    (σ : Section) (i j k : ℕ) → IsSpot n m σ i j k → rank_at σ i j k ≢ at → new σ i j k ≡ old σ i j k
 
--- a layout has no lines after this place
+-- a layout has no lines after this rank
 abbrev pub IsEmptyAfter : ℕ → ℕ → ℕ → Layout → Type 0
-IsEmptyAfter n m at lines = (σ : Section) (i j k : ℕ) → IsSpot n m σ i j k → at < place_at σ i j k → lines σ i j k ≡ []
+IsEmptyAfter n m at lines = (σ : Section) (i j k : ℕ) → IsSpot n m σ i j k → at < rank_at σ i j k → lines σ i j k ≡ []
 
 -- A layout gets one more line, at the end of a spot, and has no lines after that spot.
 pub record AddsLine (n m : ℕ) (old new : Layout) (at : ℕ) (x : List (List ℕ)) : Type 0 where
@@ -95,7 +95,7 @@ pub record AddsLine (n m : ℕ) (old new : Layout) (at : ℕ) (x : List (List �
   pub b : ℕ
   pub c : ℕ
   pub spot : IsSpot n m section a b c
-  pub is : at ≡ place_at section a b c
+  pub is : at ≡ rank_at section a b c
   pub frame : AgreeElsewhere n m at old new
   pub blank : IsEmptyAfter n m at old
   pub added : new section a b c ≡ old section a b c ++ x ∷ []
@@ -196,7 +196,7 @@ low n m processors pages σ a b c h = record {
 
 -- all spots are before the end
 pub before-end : (n m : ℕ) → n ≤ 64 → m ≤ 64 → (σ : Section) (a b c : ℕ) → IsSpot n m σ a b c
-    → place_at σ a b c < place 10 0 0 0
+    → rank_at σ a b c < rank 10 0 0 0
 before-end n m processors pages σ a b c spot =
     let l = low n m processors pages σ a b c spot in omega (arith, l.first, l.second, l.third, few σ)
 
@@ -230,10 +230,10 @@ module _ (n m : ℕ) (processors : n ≤ 64) (pages : m ≤ 64) (old new : Layou
         here = in-row;
       })
     where
-      apart : (j k : ℕ) → IsLow n m h.section h.a j k → j ≢ h.b → place_at h.section h.a j k ≢ at
+      apart : (j k : ℕ) → IsLow n m h.section h.a j k → j ≢ h.b → rank_at h.section h.a j k ≢ at
       apart j k l other e = omega (arith, e, h.is, other, l.third, here.third)
 
-      after : (j k : ℕ) → IsLow n m h.section h.a j k → h.b < j → at < place_at h.section h.a j k
+      after : (j k : ℕ) → IsLow n m h.section h.a j k → h.b < j → at < rank_at h.section h.a j k
       after j k l later = omega (arith, h.is, later, here.third)
 
   in-section : section_lines n m new h.section ≡ section_lines n m old h.section ++ x ∷ []
@@ -254,10 +254,10 @@ module _ (n m : ℕ) (processors : n ≤ 64) (pages : m ≤ 64) (old new : Layou
         here = in-group;
       })
     where
-      apart : (i j k : ℕ) → IsLow n m h.section i j k → i ≢ h.a → place_at h.section i j k ≢ at
+      apart : (i j k : ℕ) → IsLow n m h.section i j k → i ≢ h.a → rank_at h.section i j k ≢ at
       apart i j k l other e = omega (arith, e, h.is, other, l.second, l.third, here.second, here.third)
 
-      after : (i j k : ℕ) → h.a < i → at < place_at h.section i j k
+      after : (i j k : ℕ) → h.a < i → at < rank_at h.section i j k
       after i j k later = omega (arith, h.is, later, here.second, here.third)
 
   pub all-grow : all_lines n m new ≡ all_lines n m old ++ x ∷ []
@@ -270,11 +270,11 @@ module _ (n m : ℕ) (processors : n ≤ 64) (pages : m ≤ 64) (old new : Layou
             (sym (sectioned h.section)) in-section;
       })
     where
-      apart : (σ : Section) (i j k : ℕ) → IsLow n m σ i j k → number σ ≢ number h.section → place_at σ i j k ≢ at
+      apart : (σ : Section) (i j k : ℕ) → IsLow n m σ i j k → number σ ≢ number h.section → rank_at σ i j k ≢ at
       apart σ i j k l other e =
           omega (arith, e, h.is, other, l.first, l.second, l.third, here.first, here.second, here.third)
 
-      after : (σ : Section) (i j k : ℕ) → number h.section < number σ → at < place_at σ i j k
+      after : (σ : Section) (i j k : ℕ) → number h.section < number σ → at < rank_at σ i j k
       after σ i j k later = omega (arith, h.is, later, here.first, here.second, here.third)
 
       same : (σ : Section) → number σ ≢ number h.section → section_lines n m new σ ≡ section_lines n m old σ

@@ -10,7 +10,7 @@ use Rattle.text_image.specs.declared.piece.Piece.{Piece}
 use Rattle.text_image.specs.Image.{Lines, each_below}
 use Rattle.text_image.specs.Pieces.{piece_fields, IsPiece}
 use Rattle.text_image.proofs.PieceLemmas.{reading-means, piece-means}
-use Rattle.text_restore.specs.Restoring.{Stage, Body, place_of, lapics_after, IsLater, IsInTurn, Restores, Follows}
+use Rattle.text_restore.specs.Restoring.{Stage, Body, rank_of, lapics_after, IsLater, IsInTurn, Restores, Follows}
 use Rattle.text_restore.specs.Images.{Leads}
 use Rattle.text_restore.proofs.Short.{piece-written}
 
@@ -39,7 +39,7 @@ walks-whole a b (x ∷ lines) h =
     ∙ walks-whole h.0 b lines h.3
 
 -- A point on the way through an image: the state to which the pieces so far lead, how many local APICs they have, and
--- a place that all of them are before.
+-- a rank that all of them are before.
 pub record Point : Type 0 where
   pub board : State
   pub lapics : ℕ
@@ -91,7 +91,7 @@ passes-none p q board lapics at = record {
   };
 }
 
--- the same state, at a place that is not earlier
+-- the same state, at a rank that is not lower
 pub passes-from : (p p' q : Point) (lines : Lines) → p'.board ≡ p.board → p'.lapics ≡ p.lapics → p.at ≤ p'.at
     → Passes p' lines q → Passes p lines q
 passes-from p p' q lines board lapics at h = passes-append p p' q [] lines (passes-none p p' board lapics at) h
@@ -114,22 +114,22 @@ pub record Fits (p : Point) (x : Piece) (q : Point) : Type 0 where
   pub turn : IsInTurn (processors p.board) p.lapics x
   pub restores : Restores p.board x q.board
   pub count : q.lapics ≡ lapics_after p.lapics x
-  pub before : place_of x < q.at
+  pub before : rank_of x < q.at
 
 pub passes-one : (p : Point) (x : Piece) (q : Point) → Fits p x q → Passes p (piece_fields x ∷ []) q
 passes-one p x q h = record {
   from = λ last below. record {
-    now = place_of x;
+    now = rank_of x;
     before = h.before;
     walk = (
-      Body q.board (place_of x) (lapics_after p.lapics x),
+      Body q.board (rank_of x) (lapics_after p.lapics x),
       piece-written x h.fits,
       (
         x,
         (reading-means (spaced (piece_fields x)) x).1 (piece-means x h.fits),
         record { next = q.board; later = h.later last below; turn = h.turn; restores = h.restores; stage = refl },
       ),
-      ap (λ (n : ℕ). Body q.board (place_of x) n) h.count,
+      ap (λ (n : ℕ). Body q.board (rank_of x) n) h.count,
     );
   };
 }

@@ -5,7 +5,7 @@ ghost use Rattle.message_queues.specs.Image.{flags_of, header, timer_kind, timer
 use board_terms::{Message, Moment, Sint};
 
 /// The size of a message slot in bytes, and so of a message (TLFS, "SynIC Message").
-const SLOT: usize = 256;
+const SLOT_SIZE: usize = 256;
 
 /// The type of a timer's message (TLFS, "Message Types").
 const TIMER_EXPIRED: u32 = 0x8000_0010;
@@ -13,7 +13,7 @@ const TIMER_EXPIRED: u32 = 0x8000_0010;
 /// The image of a message that is placed at a given time: the 256 bytes of its slot. `pending` sets
 /// MessagePending: more messages are queued (TLFS, "SynIC Message").
 #[inline]
-pub fn image(message: &Message, pending: bool, moment: Moment) -> [u8; SLOT]
+pub fn image(message: &Message, pending: bool, moment: Moment) -> [u8; SLOT_SIZE]
     ensures { result ≡ image message.now pending moment }
 {
     match message {
@@ -39,11 +39,11 @@ pub fn image(message: &Message, pending: bool, moment: Moment) -> [u8; SLOT]
 
 /// A header, a payload, and zeros up to 256 bytes.
 #[inline]
-fn assembled(header: &[u8; 16], payload: &[u8]) -> [u8; SLOT]
+fn assembled(header: &[u8; 16], payload: &[u8]) -> [u8; SLOT_SIZE]
     requires { length payload.now ≤ 240 }
     ensures { result ≡ header.now ++ payload.now ++ replicate (240 - length payload.now) 0 }
 {
-    let mut image = [0; SLOT];
+    let mut image = [0; SLOT_SIZE];
     image[..16].copy_from_slice(header);
     image[16..16 + payload.len()].copy_from_slice(payload);
     image
@@ -100,7 +100,7 @@ pub fn slot_type(page: &[u8], sint: Sint) -> u32
     requires { length page.now ≡ 4096 }
     ensures { result ≡ slot_type page.now sint }
 {
-    let at = SLOT * sint.number() as usize;
+    let at = SLOT_SIZE * sint.number() as usize;
     let mut kind = [0; 4];
     kind.copy_from_slice(&page[at..at + 4]);
     u32::from_le_bytes(kind)

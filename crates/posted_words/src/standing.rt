@@ -2,7 +2,7 @@
 ghost use Rattle.std.specs.Prelude.{◌≡◌, ◌<◌, ◌↔◌, IsTrue, All, length, slice_index};
 ghost use Rattle.posted_words.specs.Words.{word_of};
 
-use crate::words::place_of;
+use crate::words::word_of;
 use board_terms::Vp;
 use std::marker::Model;
 
@@ -28,7 +28,7 @@ impl Standing {
         requires part { part < 4 }
         ensures { result ≡ slice_index self.now (word_of vp part) }
     {
-        self.words[place_of(vp, part)]
+        self.words[word_of(vp, part)]
     }
 
     /// Whether no bit is set.

@@ -61,7 +61,7 @@ impl Model for PostedWords {
 type Places = Shared<(), View, (u64, u64), Counted>;
 
 /// The index of the word for a processor's part, 0 to 3.
-pub(crate) fn place_of(vp: Vp, part: u8) -> usize
+pub(crate) fn word_of(vp: Vp, part: u8) -> usize
     requires { part < 4 }
     ensures { result ≡ word_of vp part }
 {
@@ -222,7 +222,7 @@ impl PostedWords {
         let found = self
             .table
             .shared
-            .fetch_or::<Raises>(&mut line.seat, place_of(vp, number / 64), 1 << bit);
+            .fetch_or::<Raises>(&mut line.seat, word_of(vp, number / 64), 1 << bit);
         if (found >> bit) & 1 == 0 {
             Raised::Fresh
         } else {
@@ -246,7 +246,7 @@ impl PostedWords {
     {
         self.table
             .shared
-            .swap::<Sweeps>(&mut sweeper.seat, place_of(vp, part), 0)
+            .swap::<Sweeps>(&mut sweeper.seat, word_of(vp, part), 0)
     }
 
     /// Sweeps a part of a processor, if the words have both, and returns its bits; otherwise does

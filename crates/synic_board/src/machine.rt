@@ -14,6 +14,7 @@ mod overlays;
 mod pages;
 mod posts;
 mod ranges;
+mod reading;
 mod registers;
 mod resetting;
 mod restoring;

@@ -48,7 +48,7 @@ enum Asked {
 }
 
 fn main(rt: HostRuntime) -> ExitCode {
-    match judge_command_line(&rt) {
+    match parse_command_line(&rt) {
         Asked::Replay(None) => replay_input(&rt),
         Asked::Replay(Some(path)) => replay_from(&rt, path.as_str()),
         Asked::Save => save_input(&rt),
@@ -98,7 +98,7 @@ const EXAMPLE: &str =
     "Example:\n  printf 'board 1 1 0\\nassert 0 60\\ntake 0\\n' | synicboard replay";
 
 /// Parses the command line. Help goes to standard output, and errors to standard error.
-fn judge_command_line(rt: &HostRuntime) -> Asked {
+fn parse_command_line(rt: &HostRuntime) -> Asked {
     let words = match env::args(rt) {
         Ok(words) => words,
         Err(error) => return unreadable(rt, error),

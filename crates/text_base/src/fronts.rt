@@ -7,11 +7,11 @@ use crate::lanes::eight_pairs;
 use crate::pairs::{decimal_pair, digits_of};
 
 /// The capacity of the buffer.
-pub const ROOM: usize = 48;
+pub const FRONT: usize = 48;
 
 /// Writes a text that ends before `at`, and returns where it begins. Requires that it fits.
 #[inline(always)]
-pub fn text_before<const N: usize>(room: &mut [u8; ROOM], at: usize, text: &[u8; N]) -> usize
+pub fn text_before<const N: usize>(room: &mut [u8; FRONT], at: usize, text: &[u8; N]) -> usize
     requires place { at ≤ 48 }
     requires fits { N ≤ at }
     ensures begins { result + N ≡ at }
@@ -25,7 +25,7 @@ pub fn text_before<const N: usize>(room: &mut [u8; ROOM], at: usize, text: &[u8;
 /// Writes a decimal number that ends before `at`, and returns where it begins. Requires 20 bytes
 /// before `at`.
 #[inline(always)]
-pub fn decimal_before(room: &mut [u8; ROOM], at: usize, n: u64) -> usize
+pub fn decimal_before(room: &mut [u8; FRONT], at: usize, n: u64) -> usize
     requires place { at ≤ 48 }
     requires fits { 20 ≤ at }
     ensures begins { result < at }
@@ -47,7 +47,7 @@ pub fn decimal_before(room: &mut [u8; ROOM], at: usize, n: u64) -> usize
 /// Writes a decimal number below 10 that ends before `at`, and returns where it begins. Requires a byte
 /// before `at`.
 #[inline(always)]
-pub fn digit_before(room: &mut [u8; ROOM], at: usize, n: u8) -> usize
+pub fn digit_before(room: &mut [u8; FRONT], at: usize, n: u8) -> usize
     requires digit { n < 10 }
     requires place { at ≤ 48 }
     requires fits { 1 ≤ at }
@@ -60,7 +60,7 @@ pub fn digit_before(room: &mut [u8; ROOM], at: usize, n: u8) -> usize
 /// Writes a decimal number of one byte that ends before `at`, and returns where it begins. Requires three
 /// bytes before `at`.
 #[inline(always)]
-pub fn small_before(room: &mut [u8; ROOM], at: usize, n: u8) -> usize
+pub fn small_before(room: &mut [u8; FRONT], at: usize, n: u8) -> usize
     requires place { at ≤ 48 }
     requires fits { 3 ≤ at }
     ensures begins { result < at }
@@ -80,7 +80,7 @@ pub fn small_before(room: &mut [u8; ROOM], at: usize, n: u8) -> usize
 /// Writes a byte as two hexadecimal digits that end before `at`, and returns where it begins.
 /// Requires two bytes before `at`.
 #[inline(always)]
-pub fn byte_before(room: &mut [u8; ROOM], at: usize, byte: u8) -> usize
+pub fn byte_before(room: &mut [u8; FRONT], at: usize, byte: u8) -> usize
     requires place { at ≤ 48 }
     requires fits { 2 ≤ at }
     ensures begins { result + 2 ≡ at }
@@ -96,7 +96,7 @@ pub fn byte_before(room: &mut [u8; ROOM], at: usize, byte: u8) -> usize
 /// Writes bytes as two hexadecimal digits each that end before `at`, and returns where they begin.
 /// Requires that they fit.
 #[inline(always)]
-pub fn bytes_before(room: &mut [u8; ROOM], at: usize, bytes: &[u8]) -> usize
+pub fn bytes_before(room: &mut [u8; FRONT], at: usize, bytes: &[u8]) -> usize
     requires place { at ≤ 48 }
     requires fits { 2 * length bytes.now ≤ at }
     ensures begins { result + 2 * length bytes.now ≡ at }

@@ -15,7 +15,7 @@ mod source;
 pub use bytes::{byte_of, put_byte, put_bytes};
 pub use fields::{Fields, is_word};
 pub use fronts::{
-    ROOM, byte_before, bytes_before, decimal_before, digit_before, small_before, text_before,
+    FRONT, byte_before, bytes_before, decimal_before, digit_before, small_before, text_before,
 };
 pub use numbers::{decimal_of, hex_of, put_decimal, put_hex};
 pub use output::Output;

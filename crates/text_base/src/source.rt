@@ -18,7 +18,7 @@ pub const LIMIT: u64 = 1_073_741_824;
 /// The greatest length of a line, without its line feed.
 pub const LONGEST: usize = 640;
 
-const ROOM: usize = 65_536;
+const BLOCK: usize = 65_536;
 
 /// Reads a stream in blocks and finds its lines. Allocates only in `open`.
 #[derive(Drop)]
@@ -82,7 +82,7 @@ impl Source {
     pub fn open(alloc: Global) -> Result<Source, AllocError>
         ensures { IfOk result (λ s. s ≡ at_start) }
     {
-        let bytes = vec![in alloc; 0; ROOM]?;
+        let bytes = vec![in alloc; 0; BLOCK]?;
         Ok(Source {
             bytes,
             line_at: 0,
@@ -172,7 +172,7 @@ impl Source {
             return self.probe(reader);
         }
         let held = self.end - self.at;
-        let room = self.budget.min((ROOM - held) as u64) as usize;
+        let room = self.budget.min((BLOCK - held) as u64) as usize;
         let read = refill(self.bytes.as_mut_slice(), self.at, self.end, room, reader);
         self.at = 0;
         self.end = held;

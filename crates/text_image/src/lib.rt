@@ -14,5 +14,6 @@ mod timers;
 
 pub use image::put_image;
 pub use piece::{Block, Piece};
+pub use processors::MASKED;
 pub use reading::piece_of;
 pub use stream::{SaveEnd, save};

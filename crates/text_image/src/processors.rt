@@ -14,7 +14,7 @@ use text_base::{Sink, put_decimal};
 use text_lines::{put_decimal_field, put_hex_field};
 
 /// A source that was not written since its processor was reset is masked.
-const MASKED: u64 = 0x10000;
+pub const MASKED: u64 = 0x10000;
 
 /// Appends the local APIC of each processor.
 pub(crate) fn put_lapics<S: Sink>(out: &mut S, board: &Board) -> Result<(), S::Error>

@@ -25,7 +25,7 @@ use Rattle.text_image.specs.declared.piece.Piece.TheVariants as pieces
 use Rattle.text_image.specs.Pieces.{piece_fields, IsPiece}
 use Rattle.text_image.specs.Parsing.{piece_at}
 use Rattle.text_image.proofs.PieceLemmas.{reading-means, piece-means}
-use Rattle.text_restore.specs.Restoring.{Stage, Untitled, Titled, Body, place, place_of, page_place, overlay_place, lapics_after, IsInTurn, IsLater, Restores, Follows, IsComplete}
+use Rattle.text_restore.specs.Restoring.{Stage, Untitled, Titled, Body, rank, rank_of, page_rank, overlay_rank, lapics_after, IsInTurn, IsLater, Restores, Follows, IsComplete}
 use Rattle.text_restore.specs.Images.{Leads}
 use Rattle.text_restore.specs.Taking.{has_ended}
 use Rattle.text_restore.proofs.Short.{piece-written}
@@ -34,8 +34,8 @@ use Rattle.text_restore.proofs.Short.{piece-written}
 pub record IsOpenBody (s : State) (last lapics : ℕ) : Type 0 where
   pub bound : processors s ≤ 64
   pub few : lapics ≤ processors s
-  pub missing : lapics < processors s → last < place 2 lapics 0 0
-  pub before : last < place 10 0 0 0
+  pub missing : lapics < processors s → last < rank 2 lapics 0 0
+  pub before : last < rank 10 0 0 0
 
 -- lines lead here, and the end was not read
 abbrev pub IsOpen : Stage → Type 0
@@ -48,11 +48,11 @@ in-range : (line : List ℕ) (x : Piece) → piece_at line ≡ Some x → IsPiec
 in-range line x is = ((reading-means line x).0 is).fits
 
 -- No piece is after the end.
-page-low : (kind : Kind) → page_place kind ≤ 1
+page-low : (kind : Kind) → page_rank kind ≤ 1
 page-low kinds.Sim = omega arith
 page-low kinds.Sief = omega arith
 
-overlay-low : (kind : Kind) → overlay_place kind ≤ 2
+overlay-low : (kind : Kind) → overlay_rank kind ≤ 2
 overlay-low kinds.Sim = omega arith
 overlay-low kinds.Sief = omega arith
 
@@ -61,7 +61,7 @@ abbrev IsInner : Piece → Type 0
 IsInner pieces.End = ⊥
 IsInner x = Unit {0}
 
-low : (x : Piece) → IsInner x → IsPiece x → place_of x < place 10 0 0 0
+low : (x : Piece) → IsInner x → IsPiece x → rank_of x < rank 10 0 0 0
 low (pieces.Moment t) inner h = omega arith
 low (pieces.Lapic p a) inner h = omega (arith, h.0)
 low (pieces.Control p value) inner h = omega (arith, h.0)
@@ -75,12 +75,12 @@ low (pieces.Queued p i m) inner h = omega (arith, h.0, h.1)
 low (pieces.Slot p i ticket) inner h = omega (arith, h.0, h.1)
 low pieces.End inner h = absurd inner
 
-not-later : (x : Piece) → IsPiece x → IsLater (place 10 0 0 0) x → ⊥
+not-later : (x : Piece) → IsPiece x → IsLater (rank 10 0 0 0) x → ⊥
 not-later pieces.End h later = omega (arith, later)
 not-later (pieces.Queued p i m) h later = omega (arith, later, low (pieces.Queued p i m) tt h)
 not-later x h later = omega (arith, later, low x tt h)
 
-stopped : (s t : State) (last lapics : ℕ) (line : List ℕ) (new : Stage) → last ≡ place 10 0 0 0
+stopped : (s t : State) (last lapics : ℕ) (line : List ℕ) (new : Stage) → last ≡ rank 10 0 0 0
     → Follows (Body s last lapics) line new → ⊥
 stopped s t last lapics line new is h =
     not-later h.0 (in-range line h.0 h.1) (subst (λ (k : ℕ). IsLater k h.0) is h.2.later)
@@ -89,11 +89,11 @@ stopped s t last lapics line new is h =
 pub no-more : (stage : Stage) (s : State) (line : List ℕ) (new : Stage) → IsComplete stage s → Follows stage line new
     → ⊥
 no-more stage s line new complete h =
-    stopped s s (place 10 0 0 0) complete.0 line new refl (subst (λ (x : Stage). Follows x line new) complete.1 h)
+    stopped s s (rank 10 0 0 0) complete.0 line new refl (subst (λ (x : Stage). Follows x line new) complete.1 h)
 
 -- The end was read iff the image is complete.
 pub ended : (s : State) (last lapics : ℕ) → has_ended (Body s last lapics) ≡ true → IsComplete (Body s last lapics) s
-ended s last lapics is = (lapics, ap (λ (k : ℕ). Body s k lapics) (eqb-true last (place 10 0 0 0) is))
+ended s last lapics is = (lapics, ap (λ (k : ℕ). Body s k lapics) (eqb-true last (rank 10 0 0 0) is))
 
 pub not-ended : (stage : Stage) (s : State) → has_ended stage ≡ false → IsComplete stage s → ⊥
 not-ended stage s off complete =
@@ -133,7 +133,7 @@ kept s pieces.End t h = ap processors h
 
 -- after the local APICs
 settled : (s t : State) (last lapics at : ℕ) → IsOpenBody s last lapics → processors t ≡ processors s
-    → lapics ≡ processors s → at < place 10 0 0 0 → IsOpenBody t at lapics
+    → lapics ≡ processors s → at < rank 10 0 0 0 → IsOpenBody t at lapics
 settled s t last lapics at h same all under = record {
   bound = omega (arith, same, h.bound);
   few = omega (arith, same, all);
@@ -143,7 +143,7 @@ settled s t last lapics at h same all under = record {
 
 after-piece : (s : State) (last lapics : ℕ) (x : Piece) (t : State) → IsOpenBody s last lapics → IsInner x → IsPiece x
     → IsInTurn (processors s) lapics x → Restores s x t →
-    processors t ≡ processors s → IsOpenBody t (place_of x) (lapics_after lapics x)
+    processors t ≡ processors s → IsOpenBody t (rank_of x) (lapics_after lapics x)
 after-piece s last lapics (pieces.Moment m) t h inner fits turn restores same = record {
   bound = omega (arith, same, h.bound);
   few = omega (arith, turn);
@@ -179,7 +179,7 @@ after-piece s last lapics (pieces.Slot p i ticket) t h inner fits turn restores 
 -- a stage after a piece is open, or the piece is the end
 after-any : (s : State) (last lapics : ℕ) (x : Piece) (t : State) → IsOpenBody s last lapics → IsPiece x
     → IsInTurn (processors s) lapics x → Restores s x t →
-    has_ended (Body t (place_of x) (lapics_after lapics x)) ≡ false → IsOpenBody t (place_of x) (lapics_after lapics x)
+    has_ended (Body t (rank_of x) (lapics_after lapics x)) ≡ false → IsOpenBody t (rank_of x) (lapics_after lapics x)
 after-any s last lapics pieces.End t h fits turn restores off = cc
 after-any s last lapics x t h fits turn restores off =
     after-piece s last lapics x t h tt fits turn restores (kept s x t restores)
@@ -225,7 +225,7 @@ one-more old new fields w follows h = record {
 
 piece-follows : (s : State) (last lapics : ℕ) (x : Piece) (t : State) → IsPiece x → IsLater last x
     → IsInTurn (processors s) lapics x → Restores s x t →
-    Follows (Body s last lapics) (spaced (piece_fields x)) (Body t (place_of x) (lapics_after lapics x))
+    Follows (Body s last lapics) (spaced (piece_fields x)) (Body t (rank_of x) (lapics_after lapics x))
 piece-follows s last lapics x t fits later turn restores = (
   x,
   (reading-means (spaced (piece_fields x)) x).1 (piece-means x fits),
@@ -240,13 +240,13 @@ no-apic = (none, none, omega arith)
 
 end-all : (s : State) (last lapics : ℕ) → IsOpenBody s last lapics → lapics ≡ processors s → Ending (Body s last lapics)
 end-all s last lapics h all =
-    one-more (Body s last lapics) (Body s (place_of pieces.End) lapics) (piece_fields pieces.End)
+    one-more (Body s last lapics) (Body s (rank_of pieces.End) lapics) (piece_fields pieces.End)
     (piece-written pieces.End tt)
     (piece-follows s last lapics pieces.End s tt h.before all refl)
     (record {
       lines = [];
       each = tt;
-      last = Body s (place_of pieces.End) lapics;
+      last = Body s (rank_of pieces.End) lapics;
       state = s;
       leads = refl;
       complete = (lapics, refl);
@@ -262,9 +262,9 @@ end-body (suc k) s last lapics h count =
     let same : processors t ≡ processors s = length-set s.apics lapics empty_apic in
     let on : lapics < processors s = omega (arith, count) in
     let restores : Restores s x t = (on, refl) in
-    one-more (Body s last lapics) (Body t (place_of x) (lapics + 1)) (piece_fields x) (piece-written x fits)
+    one-more (Body s last lapics) (Body t (rank_of x) (lapics + 1)) (piece_fields x) (piece-written x fits)
     (piece-follows s last lapics x t fits (h.missing on) refl restores)
-    (end-body k t (place_of x) (lapics + 1) (after-piece s last lapics x t h tt fits refl restores same)
+    (end-body k t (rank_of x) (lapics + 1) (after-piece s last lapics x t h tt fits refl restores same)
     (omega (arith, same, count)))
 
 titled-ends : Ending Titled

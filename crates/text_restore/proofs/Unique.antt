@@ -4,7 +4,7 @@ use Rattle.synic_board.specs.State.{State, opened}
 use Rattle.synic_board.specs.Effects.{Outcome}
 use Rattle.text_image.specs.declared.piece.Piece.{Piece}
 use Rattle.text_image.specs.declared.piece.Piece.TheVariants as pieces
-use Rattle.text_restore.specs.Restoring.{Stage, Untitled, Titled, Body, place_of, lapics_after, Restores, Continues, Opens, Follows}
+use Rattle.text_restore.specs.Restoring.{Stage, Untitled, Titled, Body, rank_of, lapics_after, Restores, Continues, Opens, Follows}
 
 -- a piece restores one state
 one-restored : (s : State) (x : Piece) (a b : State) → Restores s x a → Restores s x b → a ≡ b
@@ -24,7 +24,7 @@ one-restored s pieces.End a b h k = h ∙ sym k
 one-continued : (s : State) (last lapics : ℕ) (x : Piece) (a b : Stage) → Continues s last lapics x a
     → Continues s last lapics x b → a ≡ b
 one-continued s last lapics x a b h k =
-    h.stage ∙ ap (λ (t : State). Body t (place_of x) (lapics_after lapics x))
+    h.stage ∙ ap (λ (t : State). Body t (rank_of x) (lapics_after lapics x))
     (one-restored s x h.next k.next h.restores k.restores) ∙ sym k.stage
 
 one-opened : (line : List ℕ) (a b : Stage) → Opens line a → Opens line b → a ≡ b

@@ -17,36 +17,36 @@ use Rattle.text_image.specs.declared.piece.Piece.{Piece}
 use Rattle.text_image.specs.declared.piece.Piece.TheVariants as piece
 use Rattle.text_image.specs.Parsing.{piece_at}
 
--- The place of a piece in an image: its section, and in its section up to three numbers.
-abbrev pub place : ℕ → ℕ → ℕ → ℕ → ℕ
-place section a b c = ((section * 256 + a) * 256 + b) * 65536 + c
+-- The rank of a piece in an image: its section, and in its section up to three numbers.
+abbrev pub rank : ℕ → ℕ → ℕ → ℕ → ℕ
+rank section a b c = ((section * 256 + a) * 256 + b) * 65536 + c
 
-abbrev pub overlay_place : Kind → ℕ
-overlay_place kind.Sief = 1
-overlay_place kind.Sim = 2
+abbrev pub overlay_rank : Kind → ℕ
+overlay_rank kind.Sief = 1
+overlay_rank kind.Sim = 2
 
-abbrev pub page_place : Kind → ℕ
-page_place kind.Sim = 0
-page_place kind.Sief = 1
+abbrev pub page_rank : Kind → ℕ
+page_rank kind.Sim = 0
+page_rank kind.Sief = 1
 
-abbrev pub place_of : Piece → ℕ
-place_of (piece.Moment t) = place 1 0 0 0
-place_of (piece.Lapic p a) = place 2 p 0 0
-place_of (piece.Control p value) = place 3 p 0 0
-place_of (piece.Overlay p k value) = place 3 p (overlay_place k) 0
-place_of (piece.Source p i value) = place 3 p (3 + i) 0
-place_of (piece.Guest n at bytes) = place 4 n 0 at
-place_of (piece.Own p k at bytes) = place 5 p (page_place k) at
-place_of (piece.Port n p i shape) = place 6 n 0 0
-place_of (piece.Timer p i config count due) = place 7 p i 0
-place_of (piece.Queued p i m) = place 8 p i 0
-place_of (piece.Slot p i ticket) = place 9 p i 0
-place_of piece.End = place 10 0 0 0
+abbrev pub rank_of : Piece → ℕ
+rank_of (piece.Moment t) = rank 1 0 0 0
+rank_of (piece.Lapic p a) = rank 2 p 0 0
+rank_of (piece.Control p value) = rank 3 p 0 0
+rank_of (piece.Overlay p k value) = rank 3 p (overlay_rank k) 0
+rank_of (piece.Source p i value) = rank 3 p (3 + i) 0
+rank_of (piece.Guest n at bytes) = rank 4 n 0 at
+rank_of (piece.Own p k at bytes) = rank 5 p (page_rank k) at
+rank_of (piece.Port n p i shape) = rank 6 n 0 0
+rank_of (piece.Timer p i config count due) = rank 7 p i 0
+rank_of (piece.Queued p i m) = rank 8 p i 0
+rank_of (piece.Slot p i ticket) = rank 9 p i 0
+rank_of piece.End = rank 10 0 0 0
 
 -- a piece comes after the last one; of messages, also one of the same queue
 abbrev pub IsLater : ℕ → Piece → Type 0
-IsLater last (piece.Queued p i m) = last ≤ place_of (piece.Queued p i m)
-IsLater last x = last < place_of x
+IsLater last (piece.Queued p i m) = last ≤ rank_of (piece.Queued p i m)
+IsLater last x = last < rank_of x
 
 -- The local APICs of all n processors come one after another, after the present time and before everything else.
 abbrev pub IsInTurn : ℕ → ℕ → Piece → Type 0
@@ -92,7 +92,7 @@ pub data Stage : Type 0 where
   Untitled : Stage
   -- the title
   Titled : Stage
-  -- the board line and some pieces: the state to which they lead, the place of the last one, and how many local APICs
+  -- the board line and some pieces: the state to which they lead, the rank of the last one, and how many local APICs
   -- they have
   Body : State → ℕ → ℕ → Stage
 
@@ -102,7 +102,7 @@ pub record Continues (s : State) (last lapics : ℕ) (x : Piece) (new : Stage) :
   pub later : IsLater last x
   pub turn : IsInTurn (processors s) lapics x
   pub restores : Restores s x next
-  pub stage : new ≡ Body next (place_of x) (lapics_after lapics x)
+  pub stage : new ≡ Body next (rank_of x) (lapics_after lapics x)
 
 -- A board line with a number of pages opens a board; 0 pages open a sparse one.
 pub record Opens (line : List ℕ) (new : Stage) : Type 0 where
@@ -121,4 +121,4 @@ Follows (Body s last lapics) line new = (x : Piece) × (piece_at line ≡ Some x
 
 -- the image is complete, and its board has this state
 abbrev pub IsComplete : Stage → State → Type 0
-IsComplete stage s = (lapics : ℕ) × (stage ≡ Body s (place_of piece.End) lapics)
+IsComplete stage s = (lapics : ℕ) × (stage ≡ Body s (rank_of piece.End) lapics)

@@ -2,7 +2,7 @@
 use Rattle.std.specs.Prelude.{◌≡◌, ◌==◌, ℕ, List, [], Bool, false, Option, None, Some}
 use Rattle.synic_board.specs.State.{State, BoardModel}
 use Rattle.text_image.specs.declared.piece.Piece.TheVariants as piece
-use Rattle.text_restore.specs.Restoring.{Stage, Untitled, Titled, Body, place_of, Follows, IsComplete}
+use Rattle.text_restore.specs.Restoring.{Stage, Untitled, Titled, Body, rank_of, Follows, IsComplete}
 use Rattle.text_restore.specs.declared.stage.Stage.{Stage as Held}
 use Rattle.text_restore.specs.declared.stage.Stage.TheVariants as held
 
@@ -22,7 +22,7 @@ IsWrong stage line fault = (new : Stage) → Follows stage line new → ⊥
 
 -- the end was read
 abbrev pub has_ended : Stage → Bool
-has_ended (Body s last lapics) = last == place_of piece.End
+has_ended (Body s last lapics) = last == rank_of piece.End
 has_ended stage = false
 
 -- the board of a complete image, and none of any other

@@ -1,43 +1,43 @@
 // The order of the pieces of an image.
 ghost use Rattle.std.specs.Prelude.{◌≡◌, ◌↔◌, ◌<◌, IsTrue};
-ghost use Rattle.text_restore.specs.Restoring.{place, place_of, IsLater, IsInTurn, lapics_after};
+ghost use Rattle.text_restore.specs.Restoring.{rank, rank_of, IsLater, IsInTurn, lapics_after};
 
 use board_terms::Kind;
 use text_image::Piece;
 
-/// The place of the end of an image.
+/// The rank of the end of an image.
 pub(crate) const END: u64 = 10 * 256 * 256 * 65536;
 
-/// The place that is given by a section and up to three numbers.
-fn place(section: u8, a: u8, b: u8, c: u16) -> u64
-    ensures { result ≡ place section a b c }
+/// The rank that is given by a section and up to three numbers.
+fn rank(section: u8, a: u8, b: u8, c: u16) -> u64
+    ensures { result ≡ rank section a b c }
 {
     ((u64::from(section) * 256 + u64::from(a)) * 256 + u64::from(b)) * 65536 + u64::from(c)
 }
 
-/// The place of a piece in an image.
-pub(crate) fn place_of(piece: &Piece) -> u64
-    ensures { result ≡ place_of piece.now }
+/// The rank of a piece in an image.
+pub(crate) fn rank_of(piece: &Piece) -> u64
+    ensures { result ≡ rank_of piece.now }
 {
     match piece {
-        Piece::Moment(_) => place(1, 0, 0, 0),
-        Piece::Lapic { vp, .. } => place(2, *vp, 0, 0),
-        Piece::Control { vp, .. } => place(3, *vp, 0, 0),
+        Piece::Moment(_) => rank(1, 0, 0, 0),
+        Piece::Lapic { vp, .. } => rank(2, *vp, 0, 0),
+        Piece::Control { vp, .. } => rank(3, *vp, 0, 0),
         Piece::Overlay { vp, kind, .. } => match kind {
-            Kind::Sief => place(3, *vp, 1, 0),
-            Kind::Sim => place(3, *vp, 2, 0),
+            Kind::Sief => rank(3, *vp, 1, 0),
+            Kind::Sim => rank(3, *vp, 2, 0),
         },
-        Piece::Source { vp, sint, .. } => place(3, *vp, 3 + sint.number(), 0),
-        Piece::Guest { page, at, .. } => place(4, *page, 0, *at),
+        Piece::Source { vp, sint, .. } => rank(3, *vp, 3 + sint.number(), 0),
+        Piece::Guest { page, at, .. } => rank(4, *page, 0, *at),
         Piece::Own { vp, kind, at, .. } => match kind {
-            Kind::Sim => place(5, *vp, 0, *at),
-            Kind::Sief => place(5, *vp, 1, *at),
+            Kind::Sim => rank(5, *vp, 0, *at),
+            Kind::Sief => rank(5, *vp, 1, *at),
         },
-        Piece::Port { port, .. } => place(6, *port, 0, 0),
-        Piece::Timer { vp, index, .. } => place(7, *vp, *index, 0),
-        Piece::Queued { vp, sint, .. } => place(8, *vp, *sint, 0),
-        Piece::Slot { vp, sint, .. } => place(9, *vp, *sint, 0),
-        Piece::End => place(10, 0, 0, 0),
+        Piece::Port { port, .. } => rank(6, *port, 0, 0),
+        Piece::Timer { vp, index, .. } => rank(7, *vp, *index, 0),
+        Piece::Queued { vp, sint, .. } => rank(8, *vp, *sint, 0),
+        Piece::Slot { vp, sint, .. } => rank(9, *vp, *sint, 0),
+        Piece::End => rank(10, 0, 0, 0),
     }
 }
 
@@ -46,8 +46,8 @@ pub(crate) fn is_later(last: u64, piece: &Piece) -> bool
     ensures { IsTrue result ↔ IsLater last piece.now }
 {
     match piece {
-        Piece::Queued { .. } => last <= place_of(piece),
-        _ => last < place_of(piece),
+        Piece::Queued { .. } => last <= rank_of(piece),
+        _ => last < rank_of(piece),
     }
 }
 

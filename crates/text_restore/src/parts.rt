@@ -9,10 +9,7 @@ use board_terms::{Kind, Message, Moment, PortShape, Sint, Ticket, TimerId, Vp};
 use lapic_core::Lapic;
 use std::alloc::AllocError;
 use synic_board::{Draft, Reply};
-use text_image::{Block, Piece};
-
-/// A source that was not written since its processor was reset is masked.
-const MASKED: u64 = 0x10000;
+use text_image::{Block, MASKED, Piece};
 
 const ZEROS: [u8; 256] = [0; 256];
 

@@ -8,7 +8,7 @@ ghost use Rattle.text_restore.specs.Restoring.{Untitled, Titled, Body};
 ghost use Rattle.text_restore.specs.Taking.{stage_of, IsGood, IsWrong, has_ended, IsBoardOf};
 ghost use Rattle.text_restore.specs.inside.Stages.{OpensNone, Takes};
 
-use crate::order::{END, is_in_turn, is_later, lapics_after, place_of};
+use crate::order::{END, is_in_turn, is_later, lapics_after, rank_of};
 use crate::parts::restore_piece;
 use board_terms::Ticket;
 use std::alloc::{AllocError, Global};
@@ -25,7 +25,7 @@ pub enum Stage {
     Untitled,
     /// The title.
     Titled,
-    /// The board line and some pieces: the board, the place of the last piece, and how many local
+    /// The board line and some pieces: the board, the rank of the last piece, and how many local
     /// APICs the pieces have.
     Body { draft: Draft, last: u64, lapics: u8 },
 }
@@ -147,12 +147,12 @@ fn take_piece(
     if !is_later(*last, &piece) || !is_in_turn(draft.processors(), *lapics, &piece) {
         return Ok(false);
     }
-    let place = place_of(&piece);
+    let rank = rank_of(&piece);
     let after = lapics_after(*lapics, &piece);
     if !restore_piece(draft, piece)? {
         return Ok(false);
     }
-    *last = place;
+    *last = rank;
     *lapics = after;
     Ok(true)
 }

@@ -16,7 +16,7 @@ use Rattle.synic_board.proofs.keeping.Stores.{length-overwritten}
 use Rattle.text_image.specs.declared.piece.Piece.{Piece}
 use Rattle.text_image.specs.declared.piece.Piece.TheVariants as pieces
 use Rattle.text_image.specs.Pieces.{piece_fields}
-use Rattle.text_restore.specs.Restoring.{place_of, page_place, IsBlock}
+use Rattle.text_restore.specs.Restoring.{rank_of, page_rank, IsBlock}
 use Rattle.law_images.proofs.Blocks.{block-here, block-other}
 use Rattle.law_images.proofs.Spots.{Guests, Owns, IsSpot, AgreeElsewhere}
 use Rattle.law_images.proofs.Printed.{printed, guest_printed, own_printed, block_printed, block_of, kind_of}
@@ -29,7 +29,7 @@ block-line x bytes off = ap (λ (t : Bool). cond t [] (piece_fields x ∷ [])) o
 
 pub guest-extends : (n m ticket : ℕ) (s : State) (last lapics k at : ℕ) (bytes : ArrayVec ℕ) → IsShaped n m ticket s
     → IsBlank n m s last lapics →
-    last < place_of (pieces.Guest k at bytes) → k < m → IsBlock at bytes.items → length bytes.items ≡ 256 →
+    last < rank_of (pieces.Guest k at bytes) → k < m → IsBlock at bytes.items → length bytes.items ≡ 256 →
     Extends n m ticket s lapics (pieces.Guest k at bytes) (with_guest_bytes s k at bytes.items) lapics
 guest-extends n m ticket s last lapics k at bytes h blank later on block size = record {
   shaped = record {
@@ -105,19 +105,19 @@ guest-extends n m ticket s last lapics k at bytes h blank later on block size = 
         (block-other page bytes.items at c j whole size low place below (apart e)))
     by q j below (inr ne) apart = ap (λ (y : List ℕ). guest_printed q y j) (get_or-set_other s.pages k q now [] ne)
 
-    frame : AgreeElsewhere n m (place_of (pieces.Guest k at bytes)) (printed s lapics) (printed new lapics)
+    frame : AgreeElsewhere n m (rank_of (pieces.Guest k at bytes)) (printed s lapics) (printed new lapics)
     frame Guests q j l h' other = by q l h'.2 (cases_eq q k) (λ e f. other (omega (arith, place, e, f, h'.1)))
     frame σ i j l h' other = refl
 
-kind-place : (kind : Kind) → kind_of (page_place kind) ≡ kind
+kind-place : (kind : Kind) → kind_of (page_rank kind) ≡ kind
 kind-place kinds.Sim = refl
 kind-place kinds.Sief = refl
 
-kind-few : (kind : Kind) → page_place kind < 2
+kind-few : (kind : Kind) → page_rank kind < 2
 kind-few kinds.Sim = omega arith
 kind-few kinds.Sief = omega arith
 
-overlay-kind : (p : ℕ) (kind : Kind) → overlay_of p kind ≡ 2 * p + page_place kind
+overlay-kind : (p : ℕ) (kind : Kind) → overlay_of p kind ≡ 2 * p + page_rank kind
 overlay-kind p kinds.Sim = omega arith
 overlay-kind p kinds.Sief = refl
 
@@ -127,7 +127,7 @@ overlay-number q (suc j) h = omega (arith, h)
 
 pub own-extends : (n m ticket : ℕ) (s : State) (last lapics p : ℕ) (kind : Kind) (at : ℕ) (bytes : ArrayVec ℕ)
     → IsShaped n m ticket s → IsBlank n m s last lapics →
-    last < place_of (pieces.Own p kind at bytes) → p < n → IsBlock at bytes.items → length bytes.items ≡ 256 →
+    last < rank_of (pieces.Own p kind at bytes) → p < n → IsBlock at bytes.items → length bytes.items ≡ 256 →
     Extends n m ticket s lapics (pieces.Own p kind at bytes) (with_own_bytes s p kind at bytes.items) lapics
 own-extends n m ticket s last lapics p kind at bytes h blank later on block size = record {
   shaped = record {
@@ -147,14 +147,14 @@ own-extends n m ticket s last lapics p kind at bytes h blank later on block size
   };
   section = Owns;
   a = p;
-  b = page_place kind;
+  b = page_rank kind;
   c = c;
   spot = spot;
   is = omega (arith, place);
   frame = frame;
-  added = first-added (printed s lapics Owns p (page_place kind) c) (printed new lapics Owns p (page_place kind) c)
+  added = first-added (printed s lapics Owns p (page_rank kind) c) (printed new lapics Owns p (page_rank kind) c)
       (piece_fields (pieces.Own p kind at bytes))
-      (blank Owns p (page_place kind) c spot (omega (arith, place, later)))
+      (blank Owns p (page_rank kind) c spot (omega (arith, place, later)))
       ((λ i. own_printed p (kind-place kind i) (own_page (space_of new) p (kind-place kind i)) c)
       ∙ ap (λ (y : List ℕ). own_printed p kind y c) same
       ∙ (λ i. block_printed (pieces.Own p kind (sym place i) (record { items = here i })) (here i))
@@ -191,7 +191,7 @@ own-extends n m ticket s last lapics p kind at bytes h blank later on block size
     fits : at + length bytes.items ≤ 4096
     fits = omega (arith, place, low, size)
 
-    spot : IsSpot n m Owns p (page_place kind) c
+    spot : IsSpot n m Owns p (page_rank kind) c
     spot = (on, kind-few kind, low)
 
     same : own_page (space_of new) p kind ≡ now
@@ -201,14 +201,14 @@ own-extends n m ticket s last lapics p kind at bytes h blank later on block size
     here = block-here page bytes.items at c whole size low place
 
     -- the overlay of other numbers
-    number-of : (q j : ℕ) → j < 2 → overlay_of q (kind_of j) ≡ o → (q ≡ p) × (j ≡ page_place kind)
+    number-of : (q j : ℕ) → j < 2 → overlay_of q (kind_of j) ≡ o → (q ≡ p) × (j ≡ page_rank kind)
     number-of q j below e = (
       omega (arith, e, overlay-number q j below, overlay-kind p kind, kind-few kind),
       omega (arith, e, overlay-number q j below, overlay-kind p kind, kind-few kind),
     )
 
     by : (q j l : ℕ) → j < 2 → l < 16 → (overlay_of q (kind_of j) ≡ o) ⊎ (overlay_of q (kind_of j) ≢ o)
-        → (q ≡ p → j ≡ page_place kind → l ≢ c) →
+        → (q ≡ p → j ≡ page_rank kind → l ≢ c) →
         own_printed q (kind_of j) (own_page (space_of new) q (kind_of j)) l
         ≡ own_printed q (kind_of j) (own_page (space_of s) q (kind_of j)) l
     by q j l below inner (inl e) apart =
@@ -224,7 +224,7 @@ own-extends n m ticket s last lapics p kind at bytes h blank later on block size
         ap (λ (y : List ℕ). own_printed q (kind_of j) y l)
         (get_or-set_other s.own o (overlay_of q (kind_of j)) now [] ne)
 
-    frame : AgreeElsewhere n m (place_of (pieces.Own p kind at bytes)) (printed s lapics) (printed new lapics)
+    frame : AgreeElsewhere n m (rank_of (pieces.Own p kind at bytes)) (printed s lapics) (printed new lapics)
     frame Owns q j l h' other =
         by q j l h'.1 h'.2 (cases_eq (overlay_of q (kind_of j)) o) (λ e f g. other (omega (arith, place, e, f, g)))
     frame σ i j l h' other = refl

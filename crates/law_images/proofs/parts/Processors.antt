@@ -10,14 +10,14 @@ use Rattle.synic_board.specs.Timers.{at_moment}
 use Rattle.synic_board.specs.Restoring.{with_processor}
 use Rattle.text_image.specs.declared.piece.Piece.TheVariants as pieces
 use Rattle.text_image.specs.Image.{moment_fields, lapic_line, lapic_lines}
-use Rattle.text_restore.specs.Restoring.{place_of}
+use Rattle.text_restore.specs.Restoring.{rank_of}
 use Rattle.law_images.proofs.Spots.{Time, Lapics, IsSpot, AgreeElsewhere}
 use Rattle.law_images.proofs.Printed.{printed}
 use Rattle.law_images.proofs.Extending.{IsShaped, IsBlank, Extends, first-added}
 
 pub moment-extends : (n m ticket : ℕ) (s : State) (last lapics t : ℕ) → IsShaped n m ticket s
     → IsBlank n m s last lapics →
-    last < place_of (pieces.Moment t) → t ≢ 0 → Extends n m ticket s lapics (pieces.Moment t) (at_moment s t) lapics
+    last < rank_of (pieces.Moment t) → t ≢ 0 → Extends n m ticket s lapics (pieces.Moment t) (at_moment s t) lapics
 moment-extends n m ticket s last lapics t h blank later ne = record {
   shaped = record {
     apics = h.apics;
@@ -51,14 +51,14 @@ moment-extends n m ticket s last lapics t h blank later ne = record {
     off : (t == 0) ≡ false
     off = grind (arith, nat_tests)
 
-    frame : AgreeElsewhere n m (place_of (pieces.Moment t)) (printed s lapics) (printed (at_moment s t) lapics)
+    frame : AgreeElsewhere n m (rank_of (pieces.Moment t)) (printed s lapics) (printed (at_moment s t) lapics)
     frame Time i j k h' other = absurd (other (omega (arith, h'.0, h'.1, h'.2)))
     frame σ i j k h' other = refl
 
 -- processor p is the next one
 pub lapic-extends : (n m ticket : ℕ) (s : State) (last lapics p : ℕ) (a : Apic) → IsShaped n m ticket s
     → IsBlank n m s last lapics →
-    last < place_of (pieces.Lapic p a) → p < n → p ≡ lapics
+    last < rank_of (pieces.Lapic p a) → p < n → p ≡ lapics
     → Extends n m ticket s lapics (pieces.Lapic p a) (with_processor s p a) (lapics + 1)
 lapic-extends n m ticket s last lapics p a h blank later on turn = record {
   shaped = record {
@@ -108,7 +108,7 @@ lapic-extends n m ticket s last lapics p a h blank later on turn = record {
             let one : nat_lt q (lapics + 1) ≡ false =
             grind (arith, nat_tests) in let two : nat_lt q lapics ≡ false = grind (arith, nat_tests) in one ∙ sym two
 
-    frame : AgreeElsewhere n m (place_of (pieces.Lapic p a)) (printed s lapics)
+    frame : AgreeElsewhere n m (rank_of (pieces.Lapic p a)) (printed s lapics)
         (printed (with_processor s p a) (lapics + 1))
     frame Lapics q j k h' other =
         let ne : q ≢ p = λ e. other (omega (arith, e, h'.1, h'.2)) in

@@ -18,8 +18,8 @@ use Rattle.text_image.specs.declared.piece.Piece.{Piece}
 use Rattle.text_image.specs.declared.piece.Piece.TheVariants as pieces
 use Rattle.text_image.specs.Image.{changed_line, register_fields, source_name}
 use Rattle.text_image.specs.Pieces.{piece_fields}
-use Rattle.text_restore.specs.Restoring.{place_of}
-use Rattle.law_images.proofs.Spots.{Registers, IsSpot, place_at, AgreeElsewhere}
+use Rattle.text_restore.specs.Restoring.{rank_of}
+use Rattle.law_images.proofs.Spots.{Registers, IsSpot, rank_at, AgreeElsewhere}
 use Rattle.law_images.proofs.Printed.{printed, register_printed}
 use Rattle.law_images.proofs.Extending.{IsShaped, IsBlank, Extends, first-added}
 
@@ -47,8 +47,8 @@ record Sets (p b : ℕ) (old new : Regs) (line : List (List ℕ)) : Type 0 where
   here : register_printed p new b ≡ line ∷ []
 
 regs-extends : (n m ticket : ℕ) (s : State) (last lapics p b : ℕ) (r : Regs) (x : Piece) → IsShaped n m ticket s
-    → IsBlank n m s last lapics → last < place_of x →
-    place_of x ≡ place_at Registers p b 0 → p < n → b < 19 → Sets p b (regs_of s p) r (piece_fields x)
+    → IsBlank n m s last lapics → last < rank_of x →
+    rank_of x ≡ rank_at Registers p b 0 → p < n → b < 19 → Sets p b (regs_of s p) r (piece_fields x)
     → Extends n m ticket s lapics x (with_regs s p r) lapics
 regs-extends n m ticket s last lapics p b r x shaped blank later at on few h = record {
   shaped = regs-shaped n m ticket s p r shaped h.whole;
@@ -79,7 +79,7 @@ regs-extends n m ticket s last lapics p b r x shaped blank later at on few h = r
     by q j below (inr ne) apart =
         ap (λ (y : Regs). register_printed q y j) (get_or-set_other s.regs p q r reset_regs ne)
 
-    frame : AgreeElsewhere n m (place_of x) (printed s lapics) (printed (with_regs s p r) lapics)
+    frame : AgreeElsewhere n m (rank_of x) (printed s lapics) (printed (with_regs s p r) lapics)
     frame Registers q j k h' ne = by q j h'.1 (cases_eq q p) (λ e f. ne (omega (arith, at, e, f, h'.2)))
     frame σ i j k h' ne = refl
 
@@ -92,7 +92,7 @@ changed p name value first ne =
 -- SCONTROL
 pub control-extends : (n m ticket : ℕ) (s : State) (last lapics p value : ℕ) → IsShaped n m ticket s
     → IsBlank n m s last lapics →
-    last < place_of (pieces.Control p value) → p < n → value ≢ 0 →
+    last < rank_of (pieces.Control p value) → p < n → value ≢ 0 →
     Extends n m ticket s lapics (pieces.Control p value)
     (with_regs s p (with_value (regs_of s p) registers.Control value)) lapics
 control-extends n m ticket s last lapics p value shaped blank later on ne =
@@ -113,7 +113,7 @@ control-extends n m ticket s last lapics p value shaped blank later on ne =
 -- SIEFP and SIMP
 pub overlay-extends : (n m ticket : ℕ) (s : State) (last lapics p : ℕ) (kind : Kind) (value : ℕ)
     → IsShaped n m ticket s → IsBlank n m s last lapics →
-    last < place_of (pieces.Overlay p kind value) → p < n → value ≢ 0 →
+    last < rank_of (pieces.Overlay p kind value) → p < n → value ≢ 0 →
     Extends n m ticket s lapics (pieces.Overlay p kind value)
     (with_regs s p (after_write (regs_of s p) (overlay_register kind) value)) lapics
 overlay-extends n m ticket s last lapics p kinds.Sief value shaped blank later on ne =
@@ -148,7 +148,7 @@ overlay-extends n m ticket s last lapics p kinds.Sim value shaped blank later on
 -- SINT registers
 source-extends : (n m ticket : ℕ) (s : State) (last lapics p i value : ℕ) → IsShaped n m ticket s
     → IsBlank n m s last lapics →
-    last < place_of (pieces.Source p i value) → p < n → i < 16 → value ≢ masked →
+    last < rank_of (pieces.Source p i value) → p < n → i < 16 → value ≢ masked →
     Extends n m ticket s lapics (pieces.Source p i value)
     (with_regs s p (with_value (regs_of s p) (registers.Source i) value)) lapics
 source-extends n m ticket s last lapics p i value shaped blank later on low ne =
@@ -187,7 +187,7 @@ is-stored s p i value new e = by (is_refused (registers.Source i) value) e
 
 pub stored-extends : (n m ticket : ℕ) (s : State) (last lapics p i value : ℕ) (new : State) → IsShaped n m ticket s
     → IsBlank n m s last lapics →
-    last < place_of (pieces.Source p i value) → p < n → i < 16 → value ≢ masked
+    last < rank_of (pieces.Source p i value) → p < n → i < 16 → value ≢ masked
     → (new, Done, []) ≡ stored s p (registers.Source i) value →
     Extends n m ticket s lapics (pieces.Source p i value) new lapics
 stored-extends n m ticket s last lapics p i value new shaped blank later on low ne e =

@@ -21,7 +21,7 @@ use Rattle.synic_board.specs.Restoring.{with_saved_timer, with_message}
 use Rattle.text_image.specs.declared.piece.Piece.TheVariants as pieces
 use Rattle.text_image.specs.Pieces.{piece_fields}
 use Rattle.text_image.specs.Image.{Lines, each_below, port_line, timer_line, timer_fields, message_fields, slot_line}
-use Rattle.text_restore.specs.Restoring.{place_of}
+use Rattle.text_restore.specs.Restoring.{rank_of}
 use Rattle.law_images.proofs.Growing.{each-same}
 use Rattle.law_images.proofs.Spots.{Ports, Timers, Queues, Slots, IsSpot, AgreeElsewhere}
 use Rattle.law_images.proofs.Printed.{printed}
@@ -51,7 +51,7 @@ is-opened s k p i shape new e = by (open_refusal (ports_of s) k p i shape) refl 
 
 port-extends : (n m ticket : ℕ) (s : State) (last lapics k p i : ℕ) (shape : PortShape) → IsShaped n m ticket s
     → IsBlank n m s last lapics →
-    last < place_of (pieces.Port k p i shape) → k < length s.ports
+    last < rank_of (pieces.Port k p i shape) → k < length s.ports
     → Extends n m ticket s lapics (pieces.Port k p i shape)
     (with_port s k (record { vp = p; sint = i; shape = shape })) lapics
 port-extends n m ticket s last lapics k p i shape h blank later low = record {
@@ -90,7 +90,7 @@ port-extends n m ticket s last lapics k p i shape h blank later low = record {
     spot : IsSpot n m Ports k 0 0
     spot = (omega (arith, low, h.ports), omega arith, omega arith)
 
-    frame : AgreeElsewhere n m (place_of (pieces.Port k p i shape)) (printed s lapics)
+    frame : AgreeElsewhere n m (rank_of (pieces.Port k p i shape)) (printed s lapics)
         (printed (with_port s k port) lapics)
     frame Ports q b c h' other =
         ap (lines q) (get_or-set_other s.ports k q (Some port) None (λ e. other (omega (arith, e, h'.1, h'.2))))
@@ -98,7 +98,7 @@ port-extends n m ticket s last lapics k p i shape h blank later low = record {
 
 pub opened_port-extends : (n m ticket : ℕ) (s : State) (last lapics k p i : ℕ) (shape : PortShape) (new : State)
     → IsShaped n m ticket s → IsBlank n m s last lapics →
-    last < place_of (pieces.Port k p i shape) → (new, Done, []) ≡ opened_port s k p i shape
+    last < rank_of (pieces.Port k p i shape) → (new, Done, []) ≡ opened_port s k p i shape
     → Extends n m ticket s lapics (pieces.Port k p i shape) new lapics
 opened_port-extends n m ticket s last lapics k p i shape new h blank later e =
     let o = is-opened s k p i shape new e in
@@ -108,7 +108,7 @@ opened_port-extends n m ticket s last lapics k p i shape new h blank later e =
 -- a timer that is not idle
 pub timer-extends : (n m ticket : ℕ) (s : State) (last lapics p i config count : ℕ) (due : Option ℕ) → n ≤ 64
     → IsShaped n m ticket s → IsBlank n m s last lapics →
-    last < place_of (pieces.Timer p i config count due) → p < n → i < 4
+    last < rank_of (pieces.Timer p i config count due) → p < n → i < 4
     → ((config == 0) && ((count == 0) && is_none due) ≡ false) →
     Extends n m ticket s lapics (pieces.Timer p i config count due)
     (with_saved_timer s (p, i) (record { config = config; count = count; due = due })) lapics
@@ -152,7 +152,7 @@ timer-extends n m ticket s last lapics p i config count due few h blank later on
     spot : IsSpot n m Timers p i 0
     spot = (on, low, omega arith)
 
-    frame : AgreeElsewhere n m (place_of (pieces.Timer p i config count due)) (printed s lapics) (printed new lapics)
+    frame : AgreeElsewhere n m (rank_of (pieces.Timer p i config count due)) (printed s lapics) (printed new lapics)
     frame Timers q j c h' other = ap (lines q j) (get_or-set_other s.timers (4 * p + i) (4 * q + j) x idle_timer
         (λ e. let same : q ≡ p = omega (arith, e, low, h'.1) in other (omega (arith, e, same, h'.2))))
     frame σ a b c h' other = refl
@@ -217,7 +217,7 @@ message-extends n m ticket s lapics p i x h on low = record {
     lines : ℕ → ℕ → List Message → Lines
     lines q j y = each_below (length y) (lines_in q j y)
 
-    frame : AgreeElsewhere n m (place_of (pieces.Queued p i x)) (printed s lapics)
+    frame : AgreeElsewhere n m (rank_of (pieces.Queued p i x)) (printed s lapics)
         (printed (with_message s p i x) lapics)
     frame Queues q j c h' other = ap (lines q j) (get_or-set_other s.queues (16 * p + i) (16 * q + j) now []
         (λ e. let same : q ≡ p = omega (arith, e, low, h'.1) in other (omega (arith, e, same, h'.2))))
@@ -225,7 +225,7 @@ message-extends n m ticket s lapics p i x h on low = record {
 
 -- the ticket of the message in a slot
 pub ticket-extends : (n m ticket : ℕ) (s : State) (last lapics p i x : ℕ) → IsShaped n m ticket s
-    → IsBlank n m s last lapics → last < place_of (pieces.Slot p i x) → p < n → i < 16 →
+    → IsBlank n m s last lapics → last < rank_of (pieces.Slot p i x) → p < n → i < 16 →
     Extends n m ticket s lapics (pieces.Slot p i x) (with_slot_ticket s p i (Some x)) lapics
 ticket-extends n m ticket s last lapics p i x h blank later on low = record {
   shaped = record {
@@ -257,7 +257,7 @@ ticket-extends n m ticket s last lapics p i x h blank later on low = record {
     spot : IsSpot n m Slots p i 0
     spot = (on, low, omega arith)
 
-    frame : AgreeElsewhere n m (place_of (pieces.Slot p i x)) (printed s lapics)
+    frame : AgreeElsewhere n m (rank_of (pieces.Slot p i x)) (printed s lapics)
         (printed (with_slot_ticket s p i (Some x)) lapics)
     frame Slots q j c h' other = ap (slot_line q j) (get_or-set_other s.slots (16 * p + i) (16 * q + j) (Some x) None
         (λ e. let same : q ≡ p = omega (arith, e, low, h'.1) in other (omega (arith, e, same, h'.2))))

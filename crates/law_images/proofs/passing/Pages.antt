@@ -9,7 +9,7 @@ use Rattle.synic_board.specs.State.{State, processors, space_of}
 use Rattle.synic_board.specs.Restoring.{HasNoTickets}
 use Rattle.text_image.specs.declared.piece.Piece.TheVariants as pieces
 use Rattle.text_image.specs.Image.{each_below, guest_lines, own_lines, own_page_lines}
-use Rattle.text_restore.specs.Restoring.{place, page_place}
+use Rattle.text_restore.specs.Restoring.{rank, page_rank}
 use Rattle.law_images.specs.States.{IsBoardState}
 use Rattle.law_images.proofs.Blends.{blend, blend-more, block-fits, block-comes, page-passed}
 use Rattle.law_images.proofs.Fronts.{front, length-front, front-none, front-more, front-start, front-whole}
@@ -32,12 +32,12 @@ module _ (s : State) (h : IsBoardState s) (t : State) (full : processors t ≡ p
   with_pages pages = record t { pages = pages }
 
   guest-passed : (k : ℕ) → k < length s.pages →
-      Passes (point (with_pages (set (front k s.pages zero_page) k zero_page)) (processors s) (place 4 k 0 0))
+      Passes (point (with_pages (set (front k s.pages zero_page) k zero_page)) (processors s) (rank 4 k 0 0))
       (guest_lines s k)
-      (point (with_pages (set (front k s.pages zero_page) k (get_or s.pages k []))) (processors s) (place 4 k 0 4096))
+      (point (with_pages (set (front k s.pages zero_page) k (get_or s.pages k []))) (processors s) (rank 4 k 0 4096))
   guest-passed k below =
       page-passed page (λ (y : List ℕ). with_pages (set (front k s.pages zero_page) k y)) (processors s)
-      (λ c. place 4 k 0 (256 * c))
+      (λ c. rank 4 k 0 (256 * c))
       (λ c. pieces.Guest k (256 * c) (record { items = block_of page c })) (record {
         whole = whole;
         rising = λ c. omega arith;
@@ -68,19 +68,19 @@ module _ (s : State) (h : IsBoardState s) (t : State) (full : processors t ≡ p
       inside c = omega (arith, length-set (front k s.pages zero_page) k (blend page c), long, below)
 
   abbrev guests-at : ℕ → Point
-  guests-at k = point (with_pages (front k s.pages zero_page)) (processors s) (place 4 k 0 0)
+  guests-at k = point (with_pages (front k s.pages zero_page)) (processors s) (rank 4 k 0 0)
 
   pub guests-passed : Passes
-      (point (with_pages (replicate (length s.pages) zero_page)) (processors s) (place 4 0 0 0))
+      (point (with_pages (replicate (length s.pages) zero_page)) (processors s) (rank 4 0 0 0))
       (each_below (length s.pages) (guest_lines s))
-      (point (with_pages s.pages) (processors s) (place 5 0 0 0))
+      (point (with_pages s.pages) (processors s) (rank 5 0 0 0))
   guests-passed =
-      passes-from (point (with_pages (replicate (length s.pages) zero_page)) (processors s) (place 4 0 0 0))
-      (guests-at 0) (point (with_pages s.pages) (processors s) (place 5 0 0 0))
+      passes-from (point (with_pages (replicate (length s.pages) zero_page)) (processors s) (rank 4 0 0 0))
+      (guests-at 0) (point (with_pages s.pages) (processors s) (rank 5 0 0 0))
       (each_below (length s.pages) (guest_lines s)) (ap with_pages (sym (front-none s.pages zero_page))) refl
       (omega arith)
       (passes-to (guests-at 0) (guests-at (length s.pages))
-      (point (with_pages s.pages) (processors s) (place 5 0 0 0)) (each_below (length s.pages) (guest_lines s))
+      (point (with_pages s.pages) (processors s) (rank 5 0 0 0)) (each_below (length s.pages) (guest_lines s))
       (ap with_pages (sym (front-whole s.pages zero_page (length s.pages) (omega arith)))) refl
       (omega (arith, h.sizes.page_bound))
       (passes-each (length s.pages) (guest_lines s) guests-at step))
@@ -88,12 +88,12 @@ module _ (s : State) (h : IsBoardState s) (t : State) (full : processors t ≡ p
       step : (k : ℕ) → k < length s.pages → Passes (guests-at k) (guest_lines s k) (guests-at (suc k))
       step k below =
           passes-from (guests-at k)
-          (point (with_pages (set (front k s.pages zero_page) k zero_page)) (processors s) (place 4 k 0 0))
+          (point (with_pages (set (front k s.pages zero_page) k zero_page)) (processors s) (rank 4 k 0 0))
           (guests-at (suc k)) (guest_lines s k)
           (ap with_pages (front-start k s.pages zero_page below)) refl (omega arith)
-          (passes-to (point (with_pages (set (front k s.pages zero_page) k zero_page)) (processors s) (place 4 k 0 0))
+          (passes-to (point (with_pages (set (front k s.pages zero_page) k zero_page)) (processors s) (rank 4 k 0 0))
           (point (with_pages (set (front k s.pages zero_page) k (get_or s.pages k []))) (processors s)
-          (place 4 k 0 4096)) (guests-at (suc k)) (guest_lines s k)
+          (rank 4 k 0 4096)) (guests-at (suc k)) (guest_lines s k)
           (ap with_pages (front-more k s.pages zero_page [] below)) refl (omega arith)
           (guest-passed k below))
 
@@ -107,19 +107,19 @@ module _ (s : State) (h : IsBoardState s) (t : State) (full : processors t ≡ p
     owns-at j at = point (with_owns (front j s.own zero_page)) (processors s) at
 
     own-passed : (p : ℕ) (kind : Kind) → p < processors s → overlay_of p kind < length s.own →
-        Passes (owns-at (overlay_of p kind) (place 5 p (page_place kind) 0)) (own_page_lines s p kind)
-        (owns-at (suc (overlay_of p kind)) (place 5 p (page_place kind) 4096))
+        Passes (owns-at (overlay_of p kind) (rank 5 p (page_rank kind) 0)) (own_page_lines s p kind)
+        (owns-at (suc (overlay_of p kind)) (rank 5 p (page_rank kind) 4096))
     own-passed p kind below on =
-        passes-from (owns-at j (place 5 p (page_place kind) 0))
-        (point (with_owns (set pages j zero_page)) (processors s) (place 5 p (page_place kind) 0))
-        (owns-at (suc j) (place 5 p (page_place kind) 4096)) (own_page_lines s p kind)
+        passes-from (owns-at j (rank 5 p (page_rank kind) 0))
+        (point (with_owns (set pages j zero_page)) (processors s) (rank 5 p (page_rank kind) 0))
+        (owns-at (suc j) (rank 5 p (page_rank kind) 4096)) (own_page_lines s p kind)
         (ap with_owns (front-start j s.own zero_page on)) refl (omega arith)
-        (passes-to (point (with_owns (set pages j zero_page)) (processors s) (place 5 p (page_place kind) 0))
-        (point (with_owns (set pages j page)) (processors s) (place 5 p (page_place kind) 4096))
-        (owns-at (suc j) (place 5 p (page_place kind) 4096)) (own_page_lines s p kind)
+        (passes-to (point (with_owns (set pages j zero_page)) (processors s) (rank 5 p (page_rank kind) 0))
+        (point (with_owns (set pages j page)) (processors s) (rank 5 p (page_rank kind) 4096))
+        (owns-at (suc j) (rank 5 p (page_rank kind) 4096)) (own_page_lines s p kind)
         (ap with_owns (front-more j s.own zero_page [] on)) refl (omega arith)
         (page-passed page (λ (y : List ℕ). with_owns (set pages j y)) (processors s)
-        (λ c. place 5 p (page_place kind) (256 * c))
+        (λ c. rank 5 p (page_rank kind) (256 * c))
         (λ c. pieces.Own p kind (256 * c) (record { items = block_of page c })) (record {
           whole = whole;
           rising = λ c. omega arith;
@@ -154,21 +154,21 @@ module _ (s : State) (h : IsBoardState s) (t : State) (full : processors t ≡ p
         long = length-front j s.own zero_page
 
     pub owns-passed : Passes
-        (point (with_owns (replicate (2 * processors s) zero_page)) (processors s) (place 5 0 0 0))
+        (point (with_owns (replicate (2 * processors s) zero_page)) (processors s) (rank 5 0 0 0))
         (each_below (processors s) (own_lines s))
-        (point (with_owns s.own) (processors s) (place 6 0 0 0))
+        (point (with_owns s.own) (processors s) (rank 6 0 0 0))
     owns-passed =
-        passes-from (point (with_owns (replicate (2 * processors s) zero_page)) (processors s) (place 5 0 0 0)) (at 0)
-        (point (with_owns s.own) (processors s) (place 6 0 0 0))
+        passes-from (point (with_owns (replicate (2 * processors s) zero_page)) (processors s) (rank 5 0 0 0)) (at 0)
+        (point (with_owns s.own) (processors s) (rank 6 0 0 0))
         (each_below (processors s) (own_lines s)) (ap with_owns (sym none)) refl (omega arith)
-        (passes-to (at 0) (at (processors s)) (point (with_owns s.own) (processors s) (place 6 0 0 0))
+        (passes-to (at 0) (at (processors s)) (point (with_owns s.own) (processors s) (rank 6 0 0 0))
         (each_below (processors s) (own_lines s))
         (ap with_owns (sym (front-whole s.own zero_page (2 * processors s) (omega (arith, h.shape.overlays))))) refl
         (omega (arith, h.settled.bound))
         (passes-each (processors s) (own_lines s) at step))
       where
         at : ℕ → Point
-        at p = owns-at (2 * p) (place 5 p 0 0)
+        at p = owns-at (2 * p) (rank 5 p 0 0)
 
         none : replicate (2 * processors s) zero_page ≡ front 0 s.own zero_page
         none = ap (λ (n : ℕ). replicate n zero_page) (sym h.shape.overlays) ∙ front-none s.own zero_page
@@ -177,13 +177,13 @@ module _ (s : State) (h : IsBoardState s) (t : State) (full : processors t ≡ p
         step p below =
             let first : suc (2 * p) ≡ 2 * p + 1 = omega arith in
             let second : 2 * suc p ≡ suc (2 * p + 1) = omega arith in
-            passes-append (at p) (owns-at (2 * p + 1) (place 5 p 1 0)) (at (suc p)) (own_page_lines s p kinds.Sim)
+            passes-append (at p) (owns-at (2 * p + 1) (rank 5 p 1 0)) (at (suc p)) (own_page_lines s p kinds.Sim)
             (own_page_lines s p kinds.Sief)
-            (passes-to (at p) (owns-at (suc (2 * p)) (place 5 p 0 4096)) (owns-at (2 * p + 1) (place 5 p 1 0))
+            (passes-to (at p) (owns-at (suc (2 * p)) (rank 5 p 0 4096)) (owns-at (2 * p + 1) (rank 5 p 1 0))
             (own_page_lines s p kinds.Sim)
             (ap (λ (k : ℕ). with_owns (front k s.own zero_page)) (sym first)) refl (omega arith)
             (own-passed p kinds.Sim below (omega (arith, h.shape.overlays, below))))
-            (passes-to (owns-at (2 * p + 1) (place 5 p 1 0)) (owns-at (suc (2 * p + 1)) (place 5 p 1 4096))
+            (passes-to (owns-at (2 * p + 1) (rank 5 p 1 0)) (owns-at (suc (2 * p + 1)) (rank 5 p 1 4096))
             (at (suc p)) (own_page_lines s p kinds.Sief)
             (ap (λ (k : ℕ). with_owns (front k s.own zero_page)) second) refl (omega arith)
             (own-passed p kinds.Sief below (omega (arith, h.shape.overlays, below))))

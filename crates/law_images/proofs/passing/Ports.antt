@@ -18,7 +18,7 @@ use Rattle.synic_board.specs.State.{State, processors, space_of, ports_of}
 use Rattle.text_lines.specs.Events.{IsShape}
 use Rattle.text_image.specs.declared.piece.Piece.TheVariants as pieces
 use Rattle.text_image.specs.Image.{each_below, port_line, port_lines}
-use Rattle.text_restore.specs.Restoring.{place}
+use Rattle.text_restore.specs.Restoring.{rank}
 use Rattle.law_images.specs.States.{IsBoardState}
 use Rattle.law_images.proofs.Spots.{ports-few}
 use Rattle.law_images.proofs.Fronts.{front, length-front, front-none, front-sum-next, front-more, front-still, front-new, front-whole}
@@ -55,7 +55,7 @@ module _ (s : State) (h : IsBoardState s) (t : State) (full : processors t ≡ p
   with_ports ports = record t { ports = ports }
 
   abbrev ports-at : ℕ → Point
-  ports-at k = point (with_ports (front k s.ports None)) (processors s) (place 6 k 0 0)
+  ports-at k = point (with_ports (front k s.ports None)) (processors s) (rank 6 k 0 0)
 
   port-passed : (k : ℕ) → k < length s.ports → Passes (ports-at k) (port_lines s k) (ports-at (suc k))
   port-passed k inside = by (port_at (ports_of s) k) refl
@@ -111,13 +111,13 @@ module _ (s : State) (h : IsBoardState s) (t : State) (full : processors t ≡ p
           })
 
   pub ports-passed : (count : ℕ) → count ≡ length s.ports →
-      Passes (point (with_ports (replicate count None)) (processors s) (place 6 0 0 0))
-      (each_below (length s.ports) (port_lines s)) (point (with_ports s.ports) (processors s) (place 7 0 0 0))
+      Passes (point (with_ports (replicate count None)) (processors s) (rank 6 0 0 0))
+      (each_below (length s.ports) (port_lines s)) (point (with_ports s.ports) (processors s) (rank 7 0 0 0))
   ports-passed count is =
-      passes-from (point (with_ports (replicate count None)) (processors s) (place 6 0 0 0)) (ports-at 0)
-      (point (with_ports s.ports) (processors s) (place 7 0 0 0)) (each_below (length s.ports) (port_lines s))
+      passes-from (point (with_ports (replicate count None)) (processors s) (rank 6 0 0 0)) (ports-at 0)
+      (point (with_ports s.ports) (processors s) (rank 7 0 0 0)) (each_below (length s.ports) (port_lines s))
       (ap with_ports (sym none)) refl (omega arith)
-      (passes-to (ports-at 0) (ports-at (length s.ports)) (point (with_ports s.ports) (processors s) (place 7 0 0 0))
+      (passes-to (ports-at 0) (ports-at (length s.ports)) (point (with_ports s.ports) (processors s) (rank 7 0 0 0))
       (each_below (length s.ports) (port_lines s))
       (ap with_ports (sym (front-whole s.ports None (length s.ports) (omega arith)))) refl
       (omega (arith, h.shape.ports, ports-few (processors s) (is_sparse (space_of s)) h.sizes.processor_bound))

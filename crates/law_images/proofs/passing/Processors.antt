@@ -7,15 +7,15 @@ use Rattle.synic_board.specs.State.{State, processors, apic_of}
 use Rattle.synic_board.specs.Timers.{at_moment}
 use Rattle.text_image.specs.declared.piece.Piece.TheVariants as pieces
 use Rattle.text_image.specs.Image.{each_below, moment_lines, lapic_lines}
-use Rattle.text_restore.specs.Restoring.{place}
+use Rattle.text_restore.specs.Restoring.{rank}
 use Rattle.law_images.specs.States.{IsBoardState}
 use Rattle.law_images.proofs.Fronts.{front, length-front, front-none, front-more, front-all, front-whole}
 use Rattle.law_images.proofs.Tests.{same, other}
 use Rattle.law_images.proofs.Walks.{Point, point, Passes, passes-unless, passes-one, passes-none, passes-each, passes-from, passes-to}
 
 pub moment-passed : (s : State) → IsBoardState s → (t : State)
-    → Passes (point (at_moment t 0) 0 (place 1 0 0 0)) (moment_lines s.moment)
-    (point (at_moment t s.moment) 0 (place 2 0 0 0))
+    → Passes (point (at_moment t 0) 0 (rank 1 0 0 0)) (moment_lines s.moment)
+    (point (at_moment t s.moment) 0 (rank 2 0 0 0))
 moment-passed s h t =
     passes-unless (s.moment == 0) old (pieces.Moment s.moment) new
     (λ e. passes-none old new (ap (at_moment t) (same s.moment 0 e)) refl (omega arith)) (λ e. record {
@@ -28,17 +28,17 @@ moment-passed s h t =
     })
   where
     old : Point
-    old = point (at_moment t 0) 0 (place 1 0 0 0)
+    old = point (at_moment t 0) 0 (rank 1 0 0 0)
 
     new : Point
-    new = point (at_moment t s.moment) 0 (place 2 0 0 0)
+    new = point (at_moment t s.moment) 0 (rank 2 0 0 0)
 
 module _ (s : State) (h : IsBoardState s) (t : State) where
   abbrev with_lapics : List Apic → List Bool → State
   with_lapics apics marks = record t { apics = apics; suspended = marks }
 
   abbrev lapics-at : ℕ → Point
-  lapics-at k = point (with_lapics (front k s.apics empty_apic) (front k s.suspended false)) k (place 2 k 0 0)
+  lapics-at k = point (with_lapics (front k s.apics empty_apic) (front k s.suspended false)) k (rank 2 k 0 0)
 
   lapic-passed : (k : ℕ) → k < processors s → Passes (lapics-at k) (lapic_lines s k) (lapics-at (suc k))
   lapic-passed k below = passes-one (lapics-at k) (pieces.Lapic k (apic_of s k)) (lapics-at (suc k)) (record {
@@ -58,17 +58,17 @@ module _ (s : State) (h : IsBoardState s) (t : State) where
           ∙ ap (set (front k s.suspended false) k) (h.settled.suspended k)
 
   pub lapics-passed : Passes
-      (point (with_lapics (replicate (processors s) empty_apic) (replicate (processors s) false)) 0 (place 2 0 0 0))
+      (point (with_lapics (replicate (processors s) empty_apic) (replicate (processors s) false)) 0 (rank 2 0 0 0))
       (each_below (processors s) (lapic_lines s))
-      (point (with_lapics s.apics s.suspended) (processors s) (place 3 0 0 0))
+      (point (with_lapics s.apics s.suspended) (processors s) (rank 3 0 0 0))
   lapics-passed =
       passes-from (point (with_lapics (replicate (processors s) empty_apic) (replicate (processors s) false)) 0
-      (place 2 0 0 0)) (lapics-at 0)
-      (point (with_lapics s.apics s.suspended) (processors s) (place 3 0 0 0))
+      (rank 2 0 0 0)) (lapics-at 0)
+      (point (with_lapics s.apics s.suspended) (processors s) (rank 3 0 0 0))
       (each_below (processors s) (lapic_lines s))
       (λ i. with_lapics (sym (front-none s.apics empty_apic) i) (sym none i)) refl (omega arith)
       (passes-to (lapics-at 0) (lapics-at (processors s))
-      (point (with_lapics s.apics s.suspended) (processors s) (place 3 0 0 0))
+      (point (with_lapics s.apics s.suspended) (processors s) (rank 3 0 0 0))
       (each_below (processors s) (lapic_lines s))
       (λ i. with_lapics (sym whole i) (sym all i)) refl (omega (arith, h.settled.bound))
       (passes-each (processors s) (lapic_lines s) lapics-at lapic-passed))

@@ -24,7 +24,7 @@ use Rattle.synic_board.proofs.keeping.Counts.{one, in_queue, in_queues, in_slots
 use Rattle.synic_board.proofs.keeping.Emptied.{port-below}
 use Rattle.text_image.specs.declared.piece.Piece.TheVariants as pieces
 use Rattle.text_image.specs.Image.{each_below, message_fields, queue_lines, queues_lines, queued_lines}
-use Rattle.text_restore.specs.Restoring.{place}
+use Rattle.text_restore.specs.Restoring.{rank}
 use Rattle.law_images.specs.States.{IsBoardState}
 use Rattle.law_images.proofs.Fronts.{front, length-front, front-none, front-more, front-start, front-whole, front-sum-room}
 use Rattle.law_images.proofs.Tests.{test-same}
@@ -249,7 +249,7 @@ module _ (s : State) (h : IsBoardState s) (t : State) (full : processors t ≡ p
     inside = omega (arith, h.shape.queues, below, low)
 
     abbrev queue-at : ℕ → Point
-    queue-at k = point (with_queues (set old j (take k q))) (processors s) (place 8 p i 1)
+    queue-at k = point (with_queues (set old j (take k q))) (processors s) (rank 8 p i 1)
 
     message-passed : (k : ℕ) → k < length q → Passes (queue-at k) (queued_lines s p i k) (queue-at (suc k))
     message-passed k within = by (slice_get q k) refl
@@ -279,10 +279,10 @@ module _ (s : State) (h : IsBoardState s) (t : State) (full : processors t ≡ p
             })
 
     abbrev start : Point
-    start = point (with_queues old) (processors s) (place 8 p i 0)
+    start = point (with_queues old) (processors s) (rank 8 p i 0)
 
     abbrev end : Point
-    end = point (with_queues (front (16 * p + suc i) s.queues [])) (processors s) (place 8 p (suc i) 0)
+    end = point (with_queues (front (16 * p + suc i) s.queues [])) (processors s) (rank 8 p (suc i) 0)
 
     queue-passed : Passes start (queue_lines s p i) end
     queue-passed =
@@ -297,17 +297,17 @@ module _ (s : State) (h : IsBoardState s) (t : State) (full : processors t ≡ p
         following = let e : 16 * p + suc i ≡ suc (16 * p + i) = omega arith in ap (λ (n : ℕ). front n s.queues []) e
 
   abbrev queues-at : ℕ → ℕ → Point
-  queues-at p i = point (with_queues (front (16 * p + i) s.queues [])) (processors s) (place 8 p i 0)
+  queues-at p i = point (with_queues (front (16 * p + i) s.queues [])) (processors s) (rank 8 p i 0)
 
-  pub queues-passed : Passes (point (with_queues (replicate (16 * processors s) [])) (processors s) (place 8 0 0 0))
+  pub queues-passed : Passes (point (with_queues (replicate (16 * processors s) [])) (processors s) (rank 8 0 0 0))
       (each_below (processors s) (queues_lines s))
-      (point (with_queues s.queues) (processors s) (place 9 0 0 0))
+      (point (with_queues s.queues) (processors s) (rank 9 0 0 0))
   queues-passed =
-      passes-from (point (with_queues (replicate (16 * processors s) [])) (processors s) (place 8 0 0 0))
-      (queues-at 0 0) (point (with_queues s.queues) (processors s) (place 9 0 0 0))
+      passes-from (point (with_queues (replicate (16 * processors s) [])) (processors s) (rank 8 0 0 0))
+      (queues-at 0 0) (point (with_queues s.queues) (processors s) (rank 9 0 0 0))
       (each_below (processors s) (queues_lines s)) (ap with_queues (sym none)) refl (omega arith)
       (passes-to (queues-at 0 0) (queues-at (processors s) 0)
-      (point (with_queues s.queues) (processors s) (place 9 0 0 0)) (each_below (processors s) (queues_lines s))
+      (point (with_queues s.queues) (processors s) (rank 9 0 0 0)) (each_below (processors s) (queues_lines s))
       (ap with_queues (sym (front-whole s.queues [] (16 * processors s + 0) (omega (arith, h.shape.queues))))) refl
       (omega (arith, h.settled.bound))
       (passes-each (processors s) (queues_lines s) (λ p. queues-at p 0) step))

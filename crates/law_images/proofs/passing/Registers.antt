@@ -14,7 +14,7 @@ use Rattle.text_image.specs.declared.piece.Piece.{Piece}
 use Rattle.text_image.specs.declared.piece.Piece.TheVariants as pieces
 use Rattle.text_image.specs.Image.{each_below, changed_line, source_lines, register_lines}
 use Rattle.text_image.specs.Pieces.{piece_fields}
-use Rattle.text_restore.specs.Restoring.{place}
+use Rattle.text_restore.specs.Restoring.{rank}
 use Rattle.synic_regs.specs.Ranges.{AreRegs}
 use Rattle.law_images.specs.States.{IsBoardState}
 use Rattle.law_images.proofs.Fronts.{front, length-front, front-none, front-more, front-start, front-whole}
@@ -89,10 +89,10 @@ module _ (s : State) (h : IsBoardState s) (t : State) (full : processors t ≡ p
     on : p < processors t
     on = omega (arith, full, below)
 
-    control-passed : Passes (to p (with_control 0) (place 3 p 0 0)) (changed_line p (codes "scontrol") now.control 0)
-        (to p (with_control now.control) (place 3 p 1 0))
+    control-passed : Passes (to p (with_control 0) (rank 3 p 0 0)) (changed_line p (codes "scontrol") now.control 0)
+        (to p (with_control now.control) (rank 3 p 1 0))
     control-passed =
-        changed p with_control (pieces.Control p now.control) now.control 0 (place 3 p 0 0) (place 3 p 1 0)
+        changed p with_control (pieces.Control p now.control) now.control 0 (rank 3 p 0 0) (rank 3 p 1 0)
         (omega arith) (λ ne. record {
           fits = (low, are.control);
           later = λ last before. before;
@@ -102,10 +102,10 @@ module _ (s : State) (h : IsBoardState s) (t : State) (full : processors t ≡ p
           before = omega arith;
         })
 
-    sief-passed : Passes (to p (with_sief 0) (place 3 p 1 0)) (changed_line p (codes "siefp") now.sief 0)
-        (to p (with_sief now.sief) (place 3 p 2 0))
+    sief-passed : Passes (to p (with_sief 0) (rank 3 p 1 0)) (changed_line p (codes "siefp") now.sief 0)
+        (to p (with_sief now.sief) (rank 3 p 2 0))
     sief-passed =
-        changed p with_sief (pieces.Overlay p kinds.Sief now.sief) now.sief 0 (place 3 p 1 0) (place 3 p 2 0)
+        changed p with_sief (pieces.Overlay p kinds.Sief now.sief) now.sief 0 (rank 3 p 1 0) (rank 3 p 2 0)
         (omega arith) (λ ne. record {
           fits = (low, are.sief);
           later = λ last before. before;
@@ -115,10 +115,10 @@ module _ (s : State) (h : IsBoardState s) (t : State) (full : processors t ≡ p
           before = omega arith;
         })
 
-    sim-passed : Passes (to p (with_sim 0) (place 3 p 2 0)) (changed_line p (codes "simp") now.sim 0)
-        (to p (with_sim now.sim) (place 3 p 3 0))
+    sim-passed : Passes (to p (with_sim 0) (rank 3 p 2 0)) (changed_line p (codes "simp") now.sim 0)
+        (to p (with_sim now.sim) (rank 3 p 3 0))
     sim-passed =
-        changed p with_sim (pieces.Overlay p kinds.Sim now.sim) now.sim 0 (place 3 p 2 0) (place 3 p 3 0)
+        changed p with_sim (pieces.Overlay p kinds.Sim now.sim) now.sim 0 (rank 3 p 2 0) (rank 3 p 3 0)
         (omega arith) (λ ne. record {
           fits = (low, are.sim);
           later = λ last before. before;
@@ -129,21 +129,21 @@ module _ (s : State) (h : IsBoardState s) (t : State) (full : processors t ≡ p
         })
 
     abbrev sources-at : ℕ → Point
-    sources-at i = to p (with_sources (front i now.sints masked)) (place 3 p (3 + i) 0)
+    sources-at i = to p (with_sources (front i now.sints masked)) (rank 3 p (3 + i) 0)
 
     abbrev with_source : ℕ → ℕ → Regs
     with_source i value = with_sources (set (front i now.sints masked) i value)
 
     source-passed : (i : ℕ) → i < 16 → Passes (sources-at i) (source_lines s p i) (sources-at (suc i))
     source-passed i within =
-        passes-from (sources-at i) (to p (with_source i masked) (place 3 p (3 + i) 0)) (sources-at (suc i))
+        passes-from (sources-at i) (to p (with_source i masked) (rank 3 p (3 + i) 0)) (sources-at (suc i))
         (source_lines s p i)
         (ap (λ (xs : List ℕ). board p (with_sources xs)) (front-start i now.sints masked inside)) refl (omega arith)
-        (passes-to (to p (with_source i masked) (place 3 p (3 + i) 0))
-        (to p (with_source i value) (place 3 p (3 + suc i) 0)) (sources-at (suc i)) (source_lines s p i)
+        (passes-to (to p (with_source i masked) (rank 3 p (3 + i) 0))
+        (to p (with_source i value) (rank 3 p (3 + suc i) 0)) (sources-at (suc i)) (source_lines s p i)
         (ap (λ (xs : List ℕ). board p (with_sources xs)) (front-more i now.sints masked 0 inside)) refl (omega arith)
-        (changed p (with_source i) (pieces.Source p i value) value masked (place 3 p (3 + i) 0)
-        (place 3 p (3 + suc i) 0) (omega arith) (λ ne. record {
+        (changed p (with_source i) (pieces.Source p i value) value masked (rank 3 p (3 + i) 0)
+        (rank 3 p (3 + suc i) 0) (omega arith) (λ ne. record {
           fits = (low, within, is.0);
           later = λ last before. before;
           turn = sym full;
@@ -168,27 +168,27 @@ module _ (s : State) (h : IsBoardState s) (t : State) (full : processors t ≡ p
         is : (source_of now i < 2 ^ 64) × (is_legal (source_of now i) ≡ true)
         is = are.sources i 0 inside
 
-    registers-passed : Passes (to p reset_regs (place 3 p 0 0)) (register_lines s p) (to p now (place 3 (suc p) 0 0))
+    registers-passed : Passes (to p reset_regs (rank 3 p 0 0)) (register_lines s p) (to p now (rank 3 (suc p) 0 0))
     registers-passed =
-        passes-append (to p (with_control 0) (place 3 p 0 0)) (to p (with_control now.control) (place 3 p 1 0))
-        (to p now (place 3 (suc p) 0 0))
+        passes-append (to p (with_control 0) (rank 3 p 0 0)) (to p (with_control now.control) (rank 3 p 1 0))
+        (to p now (rank 3 (suc p) 0 0))
         (changed_line p (codes "scontrol") now.control 0)
         (changed_line p (codes "siefp") now.sief 0
         ++ (changed_line p (codes "simp") now.sim 0 ++ each_below 16 (source_lines s p)))
         control-passed
-        (passes-append (to p (with_sief 0) (place 3 p 1 0)) (to p (with_sief now.sief) (place 3 p 2 0))
-        (to p now (place 3 (suc p) 0 0))
+        (passes-append (to p (with_sief 0) (rank 3 p 1 0)) (to p (with_sief now.sief) (rank 3 p 2 0))
+        (to p now (rank 3 (suc p) 0 0))
         (changed_line p (codes "siefp") now.sief 0)
         (changed_line p (codes "simp") now.sim 0 ++ each_below 16 (source_lines s p))
         sief-passed
-        (passes-append (to p (with_sim 0) (place 3 p 2 0)) (to p (with_sim now.sim) (place 3 p 3 0))
-        (to p now (place 3 (suc p) 0 0))
+        (passes-append (to p (with_sim 0) (rank 3 p 2 0)) (to p (with_sim now.sim) (rank 3 p 3 0))
+        (to p now (rank 3 (suc p) 0 0))
         (changed_line p (codes "simp") now.sim 0) (each_below 16 (source_lines s p))
         sim-passed
-        (passes-from (to p (with_sim now.sim) (place 3 p 3 0)) (sources-at 0) (to p now (place 3 (suc p) 0 0))
+        (passes-from (to p (with_sim now.sim) (rank 3 p 3 0)) (sources-at 0) (to p now (rank 3 (suc p) 0 0))
         (each_below 16 (source_lines s p))
         (ap (λ (xs : List ℕ). board p (with_sources xs)) (sym none)) refl (omega arith)
-        (passes-to (sources-at 0) (sources-at 16) (to p now (place 3 (suc p) 0 0)) (each_below 16 (source_lines s p))
+        (passes-to (sources-at 0) (sources-at 16) (to p now (rank 3 (suc p) 0 0)) (each_below 16 (source_lines s p))
         (ap (λ (xs : List ℕ). board p (with_sources xs))
         (sym (front-whole now.sints masked 16 (omega (arith, are.sixteen))))) refl (omega arith)
         (passes-each 16 (source_lines s p) sources-at source-passed)))))
@@ -197,16 +197,16 @@ module _ (s : State) (h : IsBoardState s) (t : State) (full : processors t ≡ p
         none = ap (λ (n : ℕ). replicate n masked) (sym are.sixteen) ∙ front-none now.sints masked
 
   abbrev regs-at : ℕ → Point
-  regs-at p = point (with_all (front p s.regs reset_regs)) (processors s) (place 3 p 0 0)
+  regs-at p = point (with_all (front p s.regs reset_regs)) (processors s) (rank 3 p 0 0)
 
-  pub regs-passed : Passes (point (with_all (replicate (processors s) reset_regs)) (processors s) (place 3 0 0 0))
+  pub regs-passed : Passes (point (with_all (replicate (processors s) reset_regs)) (processors s) (rank 3 0 0 0))
       (each_below (processors s) (register_lines s))
-      (point (with_all s.regs) (processors s) (place 4 0 0 0))
+      (point (with_all s.regs) (processors s) (rank 4 0 0 0))
   regs-passed =
-      passes-from (point (with_all (replicate (processors s) reset_regs)) (processors s) (place 3 0 0 0)) (regs-at 0)
-      (point (with_all s.regs) (processors s) (place 4 0 0 0))
+      passes-from (point (with_all (replicate (processors s) reset_regs)) (processors s) (rank 3 0 0 0)) (regs-at 0)
+      (point (with_all s.regs) (processors s) (rank 4 0 0 0))
       (each_below (processors s) (register_lines s)) (ap with_all (sym none)) refl (omega arith)
-      (passes-to (regs-at 0) (regs-at (processors s)) (point (with_all s.regs) (processors s) (place 4 0 0 0))
+      (passes-to (regs-at 0) (regs-at (processors s)) (point (with_all s.regs) (processors s) (rank 4 0 0 0))
       (each_below (processors s) (register_lines s))
       (ap with_all (sym (front-whole s.regs reset_regs (processors s) (omega (arith, h.sound.whole.registers))))) refl
       (omega (arith, h.settled.bound))
@@ -218,9 +218,9 @@ module _ (s : State) (h : IsBoardState s) (t : State) (full : processors t ≡ p
       step : (p : ℕ) → p < processors s → Passes (regs-at p) (register_lines s p) (regs-at (suc p))
       step p below =
           let inside : p < length s.regs = omega (arith, h.sound.whole.registers, below) in
-          passes-from (regs-at p) (to p reset_regs (place 3 p 0 0)) (regs-at (suc p)) (register_lines s p)
+          passes-from (regs-at p) (to p reset_regs (rank 3 p 0 0)) (regs-at (suc p)) (register_lines s p)
           (ap with_all (front-start p s.regs reset_regs inside)) refl (omega arith)
-          (passes-to (to p reset_regs (place 3 p 0 0)) (to p (regs_of s p) (place 3 (suc p) 0 0)) (regs-at (suc p))
+          (passes-to (to p reset_regs (rank 3 p 0 0)) (to p (regs_of s p) (rank 3 (suc p) 0 0)) (regs-at (suc p))
           (register_lines s p)
           (ap with_all (front-more p s.regs reset_regs reset_regs inside)) refl (omega arith)
           (registers-passed p below))

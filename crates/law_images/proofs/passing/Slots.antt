@@ -12,7 +12,7 @@ use Rattle.synic_board.specs.State.{State, processors, slot_of, space_of}
 use Rattle.synic_board.proofs.keeping.Counts.{in_slot, in_queues, in_slots, times-locations}
 use Rattle.text_image.specs.declared.piece.Piece.TheVariants as pieces
 use Rattle.text_image.specs.Image.{each_below, slot_line, slot_lines, slots_lines}
-use Rattle.text_restore.specs.Restoring.{place}
+use Rattle.text_restore.specs.Restoring.{rank}
 use Rattle.law_images.specs.States.{IsBoardState}
 use Rattle.law_images.proofs.Fronts.{front, front-none, front-more, front-start, front-still, front-new, front-whole, front-sum-room}
 use Rattle.law_images.proofs.Tests.{test-same, same}
@@ -24,7 +24,7 @@ module _ (s : State) (h : IsBoardState s) (t : State) (full : processors t ≡ p
   with_slots slots = record t { slots = slots }
 
   abbrev slots-at : ℕ → ℕ → Point
-  slots-at p i = point (with_slots (front (16 * p + i) s.slots None)) (processors s) (place 9 p i 0)
+  slots-at p i = point (with_slots (front (16 * p + i) s.slots None)) (processors s) (rank 9 p i 0)
 
   -- A ticket of a board in a slot.
   module _ (p i x : ℕ) (below : p < processors s) (low : i < 16) (is : slot_of s p i ≡ Some x) where
@@ -102,15 +102,15 @@ module _ (s : State) (h : IsBoardState s) (t : State) (full : processors t ≡ p
         before = omega arith;
       })
 
-  pub slots-passed : Passes (point (with_slots (replicate (16 * processors s) None)) (processors s) (place 9 0 0 0))
+  pub slots-passed : Passes (point (with_slots (replicate (16 * processors s) None)) (processors s) (rank 9 0 0 0))
       (each_below (processors s) (slots_lines s))
-      (point (with_slots s.slots) (processors s) (place 10 0 0 0))
+      (point (with_slots s.slots) (processors s) (rank 10 0 0 0))
   slots-passed =
-      passes-from (point (with_slots (replicate (16 * processors s) None)) (processors s) (place 9 0 0 0))
-      (slots-at 0 0) (point (with_slots s.slots) (processors s) (place 10 0 0 0))
+      passes-from (point (with_slots (replicate (16 * processors s) None)) (processors s) (rank 9 0 0 0))
+      (slots-at 0 0) (point (with_slots s.slots) (processors s) (rank 10 0 0 0))
       (each_below (processors s) (slots_lines s)) (ap with_slots (sym none)) refl (omega arith)
       (passes-to (slots-at 0 0) (slots-at (processors s) 0)
-      (point (with_slots s.slots) (processors s) (place 10 0 0 0)) (each_below (processors s) (slots_lines s))
+      (point (with_slots s.slots) (processors s) (rank 10 0 0 0)) (each_below (processors s) (slots_lines s))
       (ap with_slots (sym (front-whole s.slots None (16 * processors s + 0) (omega (arith, h.shape.slots))))) refl
       (omega (arith, h.settled.bound))
       (passes-each (processors s) (slots_lines s) (λ p. slots-at p 0) step))

@@ -8,7 +8,7 @@ use Rattle.synic_board.specs.State.{State, processors}
 use Rattle.synic_board.specs.Timed.{IsNear}
 use Rattle.text_image.specs.declared.piece.Piece.TheVariants as pieces
 use Rattle.text_image.specs.Image.{each_below, timer_lines, timers_lines}
-use Rattle.text_restore.specs.Restoring.{place}
+use Rattle.text_restore.specs.Restoring.{rank}
 use Rattle.stimer_bank.specs.Ranges.{IsTimer}
 use Rattle.law_images.specs.States.{IsBoardState}
 use Rattle.law_images.proofs.Fronts.{front, front-none, front-more, front-still, front-all}
@@ -40,7 +40,7 @@ module _ (s : State) (h : IsBoardState s) (t : State) (full : processors t ≡ p
   with_timers timers = record t { timers = timers }
 
   abbrev timers-at : ℕ → ℕ → Point
-  timers-at p i = point (with_timers (front (4 * p + i) s.timers idle_timer)) (processors s) (place 7 p i 0)
+  timers-at p i = point (with_timers (front (4 * p + i) s.timers idle_timer)) (processors s) (rank 7 p i 0)
 
   timer-passed : (p i : ℕ) → p < processors s → i < 4 → Passes (timers-at p i) (timer_lines s p i) (timers-at p (suc i))
   timer-passed p i below low =
@@ -79,15 +79,15 @@ module _ (s : State) (h : IsBoardState s) (t : State) (full : processors t ≡ p
       next = let e : 4 * p + suc i ≡ suc (4 * p + i) = omega arith in ap (λ (k : ℕ). front k s.timers idle_timer) e
 
   pub timers-passed : Passes
-      (point (with_timers (replicate (4 * processors s) idle_timer)) (processors s) (place 7 0 0 0))
+      (point (with_timers (replicate (4 * processors s) idle_timer)) (processors s) (rank 7 0 0 0))
       (each_below (processors s) (timers_lines s))
-      (point (with_timers s.timers) (processors s) (place 8 0 0 0))
+      (point (with_timers s.timers) (processors s) (rank 8 0 0 0))
   timers-passed =
-      passes-from (point (with_timers (replicate (4 * processors s) idle_timer)) (processors s) (place 7 0 0 0))
-      (timers-at 0 0) (point (with_timers s.timers) (processors s) (place 8 0 0 0))
+      passes-from (point (with_timers (replicate (4 * processors s) idle_timer)) (processors s) (rank 7 0 0 0))
+      (timers-at 0 0) (point (with_timers s.timers) (processors s) (rank 8 0 0 0))
       (each_below (processors s) (timers_lines s)) (ap with_timers (sym none)) refl (omega arith)
       (passes-to (timers-at 0 0) (timers-at (processors s) 0)
-      (point (with_timers s.timers) (processors s) (place 8 0 0 0)) (each_below (processors s) (timers_lines s))
+      (point (with_timers s.timers) (processors s) (rank 8 0 0 0)) (each_below (processors s) (timers_lines s))
       (ap with_timers (sym all)) refl (omega (arith, h.settled.bound))
       (passes-each (processors s) (timers_lines s) (λ p. timers-at p 0) step))
     where

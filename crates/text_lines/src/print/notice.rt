@@ -6,7 +6,7 @@ ghost use Rattle.text_lines.specs.Printing.{notice_fields, text_of};
 
 use board_terms::{Notice, Sint, Ticket, Vp};
 use std::alloc::AllocError;
-use text_base::{ROOM, byte_before, decimal_before, small_before, text_before};
+use text_base::{FRONT, byte_before, decimal_before, small_before, text_before};
 
 /// Appends a line for each notice to `out`.
 #[inline(always)]
@@ -54,8 +54,8 @@ fn put_message<const N: usize>(
     ensures { OnOk result (out.new.items
         ≡ out.old.items ++ (head.now ++ line_of (decimal ticket ∷ decimal vp ∷ decimal sint ∷ []))) }
 {
-    let mut room = [0u8; ROOM];
-    let at = text_before(&mut room, ROOM, b"\n");
+    let mut room = [0u8; FRONT];
+    let at = text_before(&mut room, FRONT, b"\n");
     let at = small_before(&mut room, at, sint.number());
     let at = text_before(&mut room, at, b" ");
     let at = small_before(&mut room, at, vp.number());
@@ -78,8 +78,8 @@ fn put_numbers<const N: usize>(
     ensures { OnOk result (out.new.items
         ≡ out.old.items ++ (head.now ++ line_of (decimal vp ∷ decimal number ∷ decimal value ∷ []))) }
 {
-    let mut room = [0u8; ROOM];
-    let at = text_before(&mut room, ROOM, b"\n");
+    let mut room = [0u8; FRONT];
+    let at = text_before(&mut room, FRONT, b"\n");
     let at = decimal_before(&mut room, at, value);
     let at = text_before(&mut room, at, b" ");
     let at = small_before(&mut room, at, number);
@@ -100,8 +100,8 @@ fn put_source<const N: usize>(
     requires { N ≤ 16 }
     ensures { OnOk result (out.new.items ≡ out.old.items ++ (head.now ++ line_of (decimal vp ∷ decimal sint ∷ []))) }
 {
-    let mut room = [0u8; ROOM];
-    let at = text_before(&mut room, ROOM, b"\n");
+    let mut room = [0u8; FRONT];
+    let at = text_before(&mut room, FRONT, b"\n");
     let at = small_before(&mut room, at, sint.number());
     let at = text_before(&mut room, at, b" ");
     let at = small_before(&mut room, at, vp.number());
@@ -121,8 +121,8 @@ fn put_request<const N: usize>(
     ensures { OnOk result (out.new.items
         ≡ out.old.items ++ (head.now ++ line_of (decimal vp ∷ two_digits vector ∷ []))) }
 {
-    let mut room = [0u8; ROOM];
-    let at = text_before(&mut room, ROOM, b"\n");
+    let mut room = [0u8; FRONT];
+    let at = text_before(&mut room, FRONT, b"\n");
     let at = byte_before(&mut room, at, vector);
     let at = text_before(&mut room, at, b" ");
     let at = small_before(&mut room, at, vp.number());

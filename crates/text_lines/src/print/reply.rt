@@ -9,7 +9,9 @@ use crate::print::put;
 use board_terms::{Bytes8, Ticket};
 use std::alloc::AllocError;
 use synic_board::Reply;
-use text_base::{ROOM, bytes_before, decimal_before, digits_of, put_decimal, put_hex, text_before};
+use text_base::{
+    FRONT, bytes_before, decimal_before, digits_of, put_decimal, put_hex, text_before,
+};
 
 /// Appends the line of a reply to `out`.
 #[inline(always)]
@@ -66,8 +68,8 @@ fn put_accepted(out: &mut Vec<u8>, ticket: Ticket) -> Result<(), AllocError>
     ensures { OnOk result (out.new.items
         ≡ out.old.items ++ line_of (codes "=" ∷ codes "accepted" ∷ decimal ticket ∷ [])) }
 {
-    let mut room = [0u8; ROOM];
-    let at = text_before(&mut room, ROOM, b"\n");
+    let mut room = [0u8; FRONT];
+    let at = text_before(&mut room, FRONT, b"\n");
     let at = decimal_before(&mut room, at, ticket);
     let at = text_before(&mut room, at, b"= accepted ");
     put(out, &room[at..])
@@ -83,8 +85,8 @@ fn put_loaded(out: &mut Vec<u8>, bytes: &Bytes8) -> Result<(), AllocError>
     if bytes.is_empty() {
         return put(out, b"= bytes -\n");
     }
-    let mut room = [0u8; ROOM];
-    let at = text_before(&mut room, ROOM, b"\n");
+    let mut room = [0u8; FRONT];
+    let at = text_before(&mut room, FRONT, b"\n");
     let at = bytes_before(&mut room, at, bytes);
     let at = text_before(&mut room, at, b"= bytes ");
     put(out, &room[at..])

@@ -23,8 +23,8 @@ pub loop-timer-init : goal.loop-timer-init
 loop-timer-init c =
     (omega arith, starts-trying c.args.self.now c.args.notices.now most_expiries (due_now c.args.self.now.state))
 
-pub attempt_due-requires-clause-is_due : goal.attempt_due-requires-clause-is_due
-attempt_due-requires-clause-is_due c =
+pub try_due_timer-requires-clause-is_due : goal.try_due_timer-requires-clause-is_due
+try_due_timer-requires-clause-is_due c =
     first-is_due c.loop-timer.self c.in-Some.timer (omega arith) (sym (c.in-Some.ensures {u = tt}).first)
 
 pub returns : goal.returns
@@ -36,7 +36,7 @@ returns-then-left-eq0 c =
     let first = sym (c.in-Some.ensures {u = tt}).first in
     let h = tries-due c.loop-timer.self c.in-Some.timer
     (omega arith) first _ _ _ _ _ _ c.loop-timer.invariant.1 c.loop-timer.invariant.0 _ _
-    c.attempt_due.ensures.effected _ c.attempt_due.ensures.ready in
+    c.try_due_timer.ensures.effected _ c.try_due_timer.ensures.ready in
     tried-most _ _ _ _ _ _ _ _ h c.if-left-eq0.true
 
 pub returns-in_default-first_due : goal.returns-in_default-first_due
@@ -44,10 +44,10 @@ returns-in_default-first_due c =
     let first = sym (c.in-Some.ensures {u = tt}).first in
     let h = tries-due c.loop-timer.self c.in-Some.timer
     (omega arith) first _ _ _ _ _ _ c.loop-timer.invariant.1 c.loop-timer.invariant.0 _ _
-    c.attempt_due.ensures.effected _ c.attempt_due.ensures.ready in
+    c.try_due_timer.ensures.effected _ c.try_due_timer.ensures.ready in
     let all = without-first c.loop-timer.self c.in-Some.timer
-    (omega arith) first c.attempt_due.new.self _ _ c.attempt_due.ensures.effected in
-    let none = none-due c.attempt_due.new.self.state
+    (omega arith) first c.try_due_timer.new.self _ _ c.try_due_timer.ensures.effected in
+    let none = none-due c.try_due_timer.new.self.state
     (sym c.first_due-in-Some.ensures.first ∙ c.in_default-first_due.is) in
     tried-all _ _ _ _ _ _ _ _ h (all ∙ ap (filter (is_other c.in-Some.timer)) none)
 
@@ -56,8 +56,8 @@ loop-timer-smaller c =
     let first = sym (c.in-Some.ensures {u = tt}).first in
     let never = not-due c.in-Some.timer c.self.view_is c.is_due.ensures c.if-is_due.false in
     let gone = expired c.loop-timer.self c.in-Some.timer
-    (omega arith) first c.attempt_due.new.self _ _ c.attempt_due.ensures.effected never in
-    less c.loop-timer.left c.attempt_due.result c.loop-timer.invariant.0 (c.attempt_due.ensures.ready ∙ gone)
+    (omega arith) first c.try_due_timer.new.self _ _ c.try_due_timer.ensures.effected never in
+    less c.loop-timer.left c.try_due_timer.result c.loop-timer.invariant.0 (c.try_due_timer.ensures.ready ∙ gone)
 
 pub loop-timer-preserved : goal.loop-timer-preserved
 loop-timer-preserved c =
@@ -65,13 +65,13 @@ loop-timer-preserved c =
     let never = not-due c.in-Some.timer c.self.view_is c.is_due.ensures c.if-is_due.false in (
       omega (arith, c.if-left-eq0.false),
       subst (IsTrying c.args.self.now c.args.notices.now most_expiries
-          (due_now c.args.self.now.state) c.attempt_due.new.self c.attempt_due.new.notices
-          (c.loop-timer.left - bool_byte c.attempt_due.result))
+          (due_now c.args.self.now.state) c.try_due_timer.new.self c.try_due_timer.new.notices
+          (c.loop-timer.left - bool_byte c.try_due_timer.result))
           (due-others c.loop-timer.self c.in-Some.timer
-          (omega arith) first c.attempt_due.new.self _ _ c.attempt_due.ensures.effected never)
+          (omega arith) first c.try_due_timer.new.self _ _ c.try_due_timer.ensures.effected never)
           (tries-due c.loop-timer.self c.in-Some.timer
           (omega arith) first _ _ _ _ _ _ c.loop-timer.invariant.1 c.loop-timer.invariant.0 _ _
-          c.attempt_due.ensures.effected _ c.attempt_due.ensures.ready),
+          c.try_due_timer.ensures.effected _ c.try_due_timer.ensures.ready),
     )
 
 pub try_others-requires : goal.try_others-requires
@@ -79,7 +79,7 @@ try_others-requires c =
     let first = sym (c.in-Some.ensures {u = tt}).first in
     let h = tries-due c.loop-timer.self c.in-Some.timer
     (omega arith) first _ _ _ _ _ _ c.loop-timer.invariant.1 c.loop-timer.invariant.0 _ _
-    c.attempt_due.ensures.effected _ c.attempt_due.ensures.ready in
+    c.try_due_timer.ensures.effected _ c.try_due_timer.ensures.ready in
     record { room = omega (arith, h.room, ap length c.requires) }
 
 pub returns-then-is_due : goal.returns-then-is_due
@@ -87,11 +87,11 @@ returns-then-is_due c =
     let first = sym (c.in-Some.ensures {u = tt}).first in
     let h = tries-due c.loop-timer.self c.in-Some.timer
     (omega arith) first _ _ _ _ _ _ c.loop-timer.invariant.1 c.loop-timer.invariant.0 _ _
-    c.attempt_due.ensures.effected _ c.attempt_due.ensures.ready in
+    c.try_due_timer.ensures.effected _ c.try_due_timer.ensures.ready in
     let all = without-first c.loop-timer.self c.in-Some.timer
-    (omega arith) first c.attempt_due.new.self _ _ c.attempt_due.ensures.effected in
+    (omega arith) first c.try_due_timer.new.self _ _ c.try_due_timer.ensures.effected in
     tried-rest _ _ _ _ _ _ _ _
     (subst (IsTrying c.args.self.now c.args.notices.now most_expiries
-    (due_now c.args.self.now.state) c.attempt_due.new.self c.attempt_due.new.notices
-    (c.loop-timer.left - bool_byte c.attempt_due.result)) all h)
+    (due_now c.args.self.now.state) c.try_due_timer.new.self c.try_due_timer.new.notices
+    (c.loop-timer.left - bool_byte c.try_due_timer.result)) all h)
     _ _ c.try_others.ensures

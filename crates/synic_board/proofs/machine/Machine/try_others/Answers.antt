@@ -6,8 +6,8 @@ use Rattle.synic_board.specs.inside.View.{state_of}
 use Rattle.synic_board.proofs.Clocks.{listed_on}
 use Rattle.synic_board.proofs.machine.Machine.try_others.Goals as goal
 
-pub attempt_others-requires-clause-on : goal.attempt_others-requires-clause-on
-attempt_others-requires-clause-on c =
+pub try_in_order-requires-clause-on : goal.try_in_order-requires-clause-on
+try_in_order-requires-clause-on c =
     let listed : List (ℕ × ℕ) = due_list (dues c.self.inside.timers) c.self.inside.moment in
     let on : AllOn (state_of c.self.inside) listed =
     listed_on c.self.inside.timers c.self.inside.moment

@@ -5,8 +5,8 @@ use Rattle.std.proofs.lemmas.Bool.Decides.{nat_tests}
 use Rattle.board_terms.specs.Dues.{number_of}
 use Rattle.synic_board.specs.inside.Steps.{is_other}
 use Rattle.synic_board.proofs.Trying.{IsTrying, starts-trying, tried-all, tried-most, tries-first}
-use Rattle.synic_board.proofs.machine.Machine.attempt_others.Goals as goal
-use Rattle.synic_board.proofs.machine.Machine.attempt_others.Goals.{then-number, else-number}
+use Rattle.synic_board.proofs.machine.Machine.try_in_order.Goals as goal
+use Rattle.synic_board.proofs.machine.Machine.try_in_order.Goals.{then-number, else-number}
 
 -- the next of some timers is among those that pass a test, or is left out
 module _ (q : ℕ × ℕ → Bool) (xs : List (ℕ × ℕ)) (i : ℕ) (x : ℕ × ℕ) (inside : i < length xs)
@@ -55,7 +55,7 @@ loop-timer-preserved c =
           (next-passes q xs i c.timer-item.result c.loop-timer-test.true c.timer-item.is
           (apart c.args.tried c.timer-item.result _ _ c.number.ensures.value c.number-in-loop-timer.ensures.value
           w.if-number.true)) so_far)
-          (omega (arith, c.if-left-eq0.false)) _ _ w.attempt.ensures.effected _ w.attempt.ensures.ready)
+          (omega (arith, c.if-left-eq0.false)) _ _ w.try_timer.ensures.effected _ w.try_timer.ensures.ready)
       | else-number w ↦
           rw (w.self-is, w.notices-is, w.left-is)
           (subst (λ ts. IsTrying c.args.self.now c.args.notices.now c.args.left
