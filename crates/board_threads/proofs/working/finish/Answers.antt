@@ -17,4 +17,5 @@ returns g c =
     c.args.worked.lines.items c.args.worked.raised c.requires.worked
     c.in_ok-ended.ended c.in_ok-ended.ensures.settled c.in_ok-ended.ensures.actors c.args.board.processors
     c.requires.processors c.in_ok-ended.ensures.raises
-    c.crew_end.result c.crew_end.ensures.ended c.crew_end.ensures.raised c.crew_end.ensures.placed c.crew_end.ensures.clear
+    c.crew_end.result c.crew_end.ensures.ended c.crew_end.ensures.raised c.crew_end.ensures.placed
+    c.crew_end.ensures.clear
