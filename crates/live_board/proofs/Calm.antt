@@ -225,11 +225,11 @@ eom-nowhere s p number (Write q other value) (same, names) off =
     ∙ ap (λ b. if b then Some p else None) (and_right (option_map_or is_eom_register (register_of other) false) (nat_lt p (processors s)) off)
 eom-nowhere s p number e other off = absurd other
 
-pub eom-cases : (s : State) (p number : ℕ) (e : Event) → IsWriteTo p number e → register_of number ≡ Some Eom → (eom_of s e ≡ Some p) ⊎ (eom_of s e ≡ None)
-eom-cases s p number e to eom = by (nat_lt p (processors s)) refl
+pub eom-cases : (s : State) (p number : ℕ) (e : Event) → IsWriteTo p number e → (p < processors s) ⊎ (eom_of s e ≡ None)
+eom-cases s p number e to = by (nat_lt p (processors s)) refl
   where
-    by : (on : Bool) → nat_lt p (processors s) ≡ on → (eom_of s e ≡ Some p) ⊎ (eom_of s e ≡ None)
-    by true on = inl (eom-there s p number e to eom (grind (arith, nat_tests)))
+    by : (on : Bool) → nat_lt p (processors s) ≡ on → (p < processors s) ⊎ (eom_of s e ≡ None)
+    by true on = inl (grind (arith, nat_tests))
     by false off = inr (eom-nowhere s p number e to off)
 
 pub quiet-is : (p number : ℕ) (e : Event) → IsWriteTo p number e → option_map_or is_quiet_register (register_of number) true ≡ true → is_quiet e ≡ true

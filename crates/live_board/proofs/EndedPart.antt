@@ -64,24 +64,7 @@ joined s mid now p log log-mid log-now more event reply first after w one silent
 pub none-waiting : (s : State) (p : ℕ) → NoneQueued s p → (i : ℕ) → i < 16 → is_waiting s p i ≡ false
 none-waiting s p none i under = ap (λ (q : List Message). delivers s p && nat_lt 0 (length q)) (none i under) ∙ and-false (delivers s p)
 
--- an EOM of a processor for which no message waits changes nothing that the guest sees
-pub part-idle : (s now : State) (p : ℕ) (log : List Access) (event : Event) (reply : Reply) (after : List Notice) → ((i : ℕ) → i < 16 → is_waiting s p i ≡ false) → (now, reply, after) ≡ step s event → Ends s p now → IsShadow s (2 * p) log
-    → IsPart s p Sim log event now log reply after
-unfolding run_of
-part-idle s now p log event reply after idle is e shadow = record {
-  news = [];
-  page = refl;
-  run = ap (λ (o : Outcome). (o.0, o.1 ∷ [], o.2 ++ [])) (sym is) ∙ ap (λ (ns : List Notice). (now, reply ∷ [], ns)) (append-nil after);
-  careful = λ _. tt;
-  shadow = λ x low. shadow x low ∙ sym (same x low);
-  others = λ j x low ne. e.others j x ne;
-  count = e.count;
-}
-  where
-    same : (x : ℕ) → x < 512 → word_of now (2 * p) x ≡ word_of s (2 * p) x
-    same x low = let place : 32 * (x / 32) + x % 32 ≡ x = omega arith in
-        ap (word_of now (2 * p)) (sym place) ∙ (e.slots (x / 32) (omega (arith, low))).idle (idle (x / 32) (omega (arith, low))) (x % 32) (omega arith) ∙ ap (word_of s (2 * p)) place
-
+-- nothing is probed
 pub probes-none : (s : State) (p n : ℕ) → ((i : ℕ) → i < n → is_waiting s p i ≡ false) → AreProbes s p n []
 probes-none s p zero idle = refl
 probes-none s p (suc n) idle = ([], [], refl, subst (λ b. ProbesIf b n []) (sym (idle n (omega arith))) refl, probes-none s p n (λ i low. idle i (omega (arith, low))))
@@ -146,17 +129,3 @@ eom-fits s p event other = absurd other
 
 pub eom-stays : (s now : State) (p : ℕ) (event : Event) (reply : Reply) (notices : List Notice) → IsEomOf s p event → IsSound s → (now, reply, notices) ≡ step s event → p < processors now
 eom-stays s now p event reply notices eom sound is = subst (λ n. p < n) (sym (stays s now event reply notices (eom-fits s p event eom) sound is)) (eom-on s p event eom)
-
--- an EOM by its register
-pub eom-is : (s : State) (p a n v : ℕ) (event : Event) → IsEomOf s p event → ((q number value : ℕ) → event ≡ Write q number value → event ≡ Write a n v) → event ≡ Write a 0x40000084 v
-eom-is s p a n v (Write q number value) (on, same, eom) by =
-    let register : 0x40000084 ≡ number = ((have_their_numbers number Eom).0 eom).1 in
-    let is : Write q number value ≡ Write a n v = by q number value refl in
-    let number-is : number ≡ n = cc in
-    is ∙ ap (λ k. Write a k v) (sym (register ∙ number-is))
-eom-is s p a n v event other by = absurd other
-
--- and by all that it writes
-pub eom-as : (s : State) (p a n v : ℕ) (event : Event) → IsEomOf s p event → ((q number value : ℕ) → event ≡ Write q number value → event ≡ Write a n v) → event ≡ Write a n v
-eom-as s p a n v (Write q number value) eom by = by q number value refl
-eom-as s p a n v event other by = absurd other

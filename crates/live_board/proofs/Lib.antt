@@ -29,6 +29,8 @@ pub mod Seen
 pub mod Signalled
 pub mod Clocked
 pub mod Calm
+pub mod Idle
+pub mod Writes
 pub mod Guests
 pub mod Woken
 pub mod Fired

@@ -165,13 +165,6 @@ probed-at old now pages other p i log log-now is index inside page h =
     there : get_or (set pages i log-now) (2 * p) [] ≡ log-now
     there = ap (λ n. get_or (set pages n log-now) (2 * p) []) index ∙ get_or-set_same pages (2 * p) log-now [] inside
 
--- what an EOM with nothing queued accessed, in terms of the whole board
-pub idle-at : (old now : BoardModel) (pages : List (List Access)) (other : LiveModel) (p i : ℕ) (log log-now : List Access) → live old pages ≡ other → i ≡ 2 * p → log ≡ get_or pages (2 * p) []
-    → (NoneQueued old.state p → log-now ≡ log) → NoneQueued other.board.state p → set pages i log-now ≡ other.pages
-idle-at old now pages other p i log log-now is index page h =
-    subst (λ (m : LiveModel). NoneQueued m.board.state p → set pages i log-now ≡ m.pages) is
-    (λ none. ap (set pages i) (h none ∙ page ∙ ap (λ n. get_or pages n []) (sym index)) ∙ set-get_or pages i [])
-
 -- a reset keeps the shadow
 pub reset-shadows : (s now : State) (pages : List (List Access)) (p i j : ℕ) (page1 page2 log1 log2 : List Access) (event : Event) (reply : Reply) (notices : List Notice) → i ≡ 2 * p → j ≡ 2 * p + 1 → 2 * p + 1 < length s.own → Shadows s pages
     → IsResetPart s p page1 event now log1 reply notices → IsCleared 512 page2 log2 → Shadows now (set (set pages i log1) j log2)

@@ -66,9 +66,9 @@ tick-stays s now event reply notices (moment, e) sound is = stays s now (Tick mo
 
 -- the tick itself
 pub tick-base : (s now : State) (k : ℕ) (pages : List (List Access)) (event : Event) (reply : Reply) (owed : List Bool) (before after : List Notice) → k ≡ processors s → IsTick event → IsSound s → IsStep s event now reply before after → length owed ≡ 8
-    → IsTickFrom s k 0 pages event now pages reply owed before after []
+    → ((p : ℕ) → get_or owed p false ≡ false) → IsTickFrom s k 0 pages event now pages reply owed before after []
 unfolding run_of
-tick-base s now k pages event reply owed before after all tick sound one eight = record {
+tick-base s now k pages event reply owed before after all tick sound one eight none = record {
   looks = λ _. [];
   stores = λ _. [];
   marks = λ _. [];
@@ -91,6 +91,7 @@ tick-base s now k pages event reply owed before after all tick sound one eight =
   fills = λ p i less under empty. g.fills p i (omega (arith, less, all)) under empty;
   eight = eight;
   owes = λ p le less. absurd (omega (arith, le, less));
+  unowed = λ p _. none p;
   still = λ p _ direct. own-tick s now p event reply one.emitted direct sound one.step;
   direct = λ p le less. absurd (omega (arith, le, less));
 }
@@ -300,6 +301,9 @@ module _ (s s1 s2 s3 : State) (k m : ℕ) (pages pages2 : List (List Access)) (l
       by (inl e) = ap (λ q. get_or (set owed k owe) q false) e ∙ get_or-set_same owed k owe false (omega (arith, inner.eight, few)) ∙ last.owes ∙ ap (λ b. finds_empty (if b then last.marks else inner.marks p)) (sym (same-true p k e))
       by (inr ne) = get_or-set_other owed k p owe false ne ∙ inner.owes p (omega (arith, le, ne)) (omega (arith, less)) ∙ ap (λ b. finds_empty (if b then last.marks else inner.marks p)) (sym (other-false p k ne))
 
+  unowed : (p : ℕ) → p < k → get_or (set owed k owe) p false ≡ false
+  unowed p less = get_or-set_other owed k p owe false (λ e. omega (arith, e, less)) ∙ inner.unowed p (omega (arith, less))
+
   still : (p : ℕ) → p < k → AreDirectAt s p event → get_or s3.own (2 * p) [] ≡ get_or s.own (2 * p) []
   still p less direct =
       let other : 2 * p ≢ 2 * k = λ e. omega (arith, e, less) in
@@ -341,6 +345,7 @@ module _ (s s1 s2 s3 : State) (k m : ℕ) (pages pages2 : List (List Access)) (l
     fills = fills;
     eight = length-set owed k owe ∙ inner.eight;
     owes = owes;
+    unowed = unowed;
     still = still;
     direct = direct;
   }
@@ -361,13 +366,13 @@ tick-step-at s s1 s2 s3 k m total v i j pages pages2 page1 page2 log1 log3 event
     (tick-step s s1 s2 s3 k m pages pages2 log1 log3 event reply owed owe before between after late2 late3 below few first-at inner-at last-at (λ at. absurd (posted (subst (λ q. AreDirectAt s q event) (sym a) at))))))
 
 -- one page more, at which the event stores and marks nothing
-pub tick-skip : (s s1 s2 : State) (k m total v i j : ℕ) (pages pages2 : List (List Access)) (page1 log1 : List Access) (event : Event) (reply : Reply) (owed : List Bool) (before between after late : List Notice)
-    → v ≡ k → i ≡ 2 * k → j ≡ k → page1 ≡ get_or pages (2 * k) [] → total ≡ suc m → 2 * k < length pages → k < 8
+pub tick-skip : (s s1 s2 : State) (k m total v i : ℕ) (pages pages2 : List (List Access)) (page1 log1 : List Access) (event : Event) (reply : Reply) (owed : List Bool) (before between after late : List Notice)
+    → v ≡ k → i ≡ 2 * k → page1 ≡ get_or pages (2 * k) [] → total ≡ suc m → 2 * k < length pages → k < 8
     → AreDirectAt s v event → IsFirst s v page1 s1 log1 before between → IsTickFrom s1 (k + 1) m (set pages i log1) event s2 pages2 reply owed between after late
-    → IsTickFrom s k total pages event s2 pages2 reply (set owed j false) before after late
-tick-skip s s1 s2 k m total v i j pages pages2 page1 log1 event reply owed before between after late a b c d f below few direct first inner =
-    subst (λ n. IsTickFrom s k n pages event s2 pages2 reply (set owed j false) before after late) (sym f)
-    (subst (λ n. IsTickFrom s k (suc m) pages event s2 pages2 reply (set owed n false) before after late) (sym c)
+    → IsTickFrom s k total pages event s2 pages2 reply owed before after late
+tick-skip s s1 s2 k m total v i pages pages2 page1 log1 event reply owed before between after late a b d f below few direct first inner =
+    subst (λ n. IsTickFrom s k n pages event s2 pages2 reply owed before after late) (sym f)
+    (subst (λ bs. IsTickFrom s k (suc m) pages event s2 pages2 reply bs before after late) unowed
     (subst (λ ps. IsTickFrom s k (suc m) pages event s2 ps reply (set owed k false) before after late) (set-get_or pages2 (2 * k) [])
     (tick-step s s1 s2 s2 k m pages pages2 log1 (get_or pages2 (2 * k) []) event reply owed false before between after late late below few first-at inner-at none.0 (λ _. (none.1, none.2)))))
   where
@@ -385,3 +390,6 @@ tick-skip s s1 s2 k m total v i j pages pages2 page1 log1 event reply owed befor
 
     none : (one : IsFinished s2 k (get_or pages2 (2 * k) []) s2 (get_or pages2 (2 * k) []) false late late) × (one.stores ≡ []) × (one.marks ≡ [])
     none = finished-none s2 k (get_or pages2 (2 * k) []) late shadow
+
+    unowed : set owed k false ≡ owed
+    unowed = ap (set owed k) (sym (inner-at.unowed k (omega arith))) ∙ set-get_or owed k false

@@ -10,9 +10,10 @@ ghost use Rattle.live_board.specs.Live.{IsQuietly};
 ghost use Rattle.live_board.specs.inside.Kinds.{IsTimerWriteBy, accessed_at};
 
 use crate::live::LiveBoard;
+use crate::timing::is_timer;
 use board_terms::{Notices, Owner, Refusal, Vp};
 use synic_board::{Event, Reply};
-use synic_regs::{Register, decode, msr};
+use synic_regs::msr;
 
 /// No processor is owed an EOM.
 const NONE_OWED: [bool; 8] = [false; 8];
@@ -65,9 +66,9 @@ impl LiveBoard {
         }
     }
 
-    /// Performs a write of a register. Out of line, with numbers in place of the event: it has a frame of
-    /// its own, and no event in memory.
-    #[inline(never)]
+    /// Performs a write of a register. In line, so that a caller that writes one register has the code of
+    /// that kind of register only; with numbers in place of the event, which is not in memory then.
+    #[inline(always)]
     fn write(
         &mut self,
         vp: u8,
@@ -77,26 +78,13 @@ impl LiveBoard {
     ) -> (Reply, [bool; 8])
         ensures { IsRegisterWrite (register_of register) vp self.old (Write vp register value) self.new result.0 result.1 notices.new }
     {
-        match decode(register) {
-            Some(Register::Eom) => {
-                let register = msr::EOM;
-                let event = Event::Write {
-                    vp,
-                    register,
-                    value,
-                };
-                (self.end_message(&event, notices), NONE_OWED)
-            }
-            Some(Register::TimerConfig(_) | Register::TimerCount(_)) => {
-                let event = Event::Write {
-                    vp,
-                    register,
-                    value,
-                };
-                self.write_timer_of(vp, &event, notices)
-            }
-            _ => (self.write_apart(vp, register, value, notices), NONE_OWED),
+        if register == msr::EOM {
+            return (self.end_message(vp, value, notices), NONE_OWED);
         }
+        if is_timer(register) {
+            return self.write_timer_at(vp, register, value, notices);
+        }
+        (self.write_apart(vp, register, value, notices), NONE_OWED)
     }
 
     /// Performs a write of a register that changes no own page.
@@ -113,16 +101,28 @@ impl LiveBoard {
         self.perform_apart(&event, notices)
     }
 
-    /// Performs a write of a timer of a processor.
-    #[inline(always)]
-    fn write_timer_of(&mut self, vp: u8, event: &Event, notices: &mut Notices) -> (Reply, [bool; 8])
-        requires { IsTimerWriteBy vp event.now }
-        ensures { IsTimedWrite (nat_lt vp (processors self.old.board.state)) vp self.old event.now self.new result.0 result.1 notices.new }
+    /// Performs a write of a timer of a processor. Out of line, with numbers in place of the event: it has
+    /// a frame of its own, and no event in memory.
+    #[inline(never)]
+    fn write_timer_at(
+        &mut self,
+        vp: u8,
+        register: u32,
+        value: u64,
+        notices: &mut Notices,
+    ) -> (Reply, [bool; 8])
+        requires { IsTimerWriteBy vp (Write vp register value) }
+        ensures { IsTimedWrite (nat_lt vp (processors self.old.board.state)) vp self.old (Write vp register value) self.new result.0 result.1 notices.new }
     {
         self.facts();
         self.board().facts();
         let target = self.on_board(vp);
-        let (reply, is_owed) = self.write_timer(event, notices);
+        let event = Event::Write {
+            vp,
+            register,
+            value,
+        };
+        let (reply, is_owed) = self.write_timer(&event, notices);
         let mut owed = NONE_OWED;
         if let Some(vp) = target {
             owed[usize::from(vp.number())] = is_owed;

@@ -1,20 +1,34 @@
 // An EOM of a processor, whose message page a guest may see.
-ghost use Rattle.std.specs.Prelude.{◌≡◌, ◌*◌, [], IfSome};
+ghost use Rattle.std.specs.Prelude.{◌≡◌, ◌<◌, ◌*◌, [], true, false, IfSome};
 ghost use Rattle.board_terms.specs.declared.pages.Kind.TheVariants.{Sim};
-ghost use Rattle.synic_board.specs.declared.event.Event.TheVariants.{Write};
 ghost use Rattle.synic_board.specs.State.{processors};
 ghost use Rattle.live_board.specs.Live.{IsShown, HasProbed, NoneQueued};
 ghost use Rattle.live_board.specs.inside.Kinds.{eom_of};
 ghost use Rattle.live_board.specs.inside.Parts.{IsShadow, IsPart, IsEomOf};
 
 use crate::passing::is_shown;
-use crate::performing::{perform_after, written};
+use crate::performing::perform_after;
 use crate::probing::{is_any_queued, probe_waiting};
 use crate::publishing::{page_words, publish};
 use board_terms::{Kind, Notices, Vp};
 use live_pages::LivePage;
 use synic_board::{Board, Event, Reply};
-use synic_regs::{Register, decode, msr};
+use synic_regs::{Register, decode};
+
+/// Whether a processor is on the board and has no queued message. Then an EOM changes nothing.
+#[inline(always)]
+pub(crate) fn is_idle(board: &Board, vp: u8) -> bool
+    ensures idle { result ≡ true → (vp < processors board.now.state) × NoneQueued board.now.state vp }
+    ensures busy { result ≡ false → vp < processors board.now.state → NoneQueued board.now.state vp → ⊥ }
+{
+    if vp >= board.processors() {
+        return false;
+    }
+    let Some(vp) = Vp::new(vp) else {
+        unreachable!()
+    };
+    !is_any_queued(board, vp)
+}
 
 /// The processor whose EOM an event is, if it is on the board.
 #[inline(always)]
@@ -81,68 +95,8 @@ fn end_hidden(
     reply
 }
 
-/// Performs an EOM of a processor with no queued message: it changes no own page.
-#[inline(always)]
-fn end_idle(
-    board: &mut Board,
-    page: &LivePage,
-    vp: Vp,
-    event: &Event,
-    notices: &mut Notices,
-) -> Reply
-    requires eom { IsEomOf board.old.state vp event.now }
-    requires idle { NoneQueued board.old.state vp }
-    requires shadow { IsShadow board.old.state (2 * vp) page.now }
-    ensures part { IsPart board.old.state vp Sim page.now event.now board.new.state page.now result notices.new }
-    ensures probed { HasProbed board.old.state vp page.now page.now }
-{
-    let _ = page;
-    board.facts();
-    let (vp, _, value) = written(event);
-    let register = msr::EOM;
-    board.perform(
-        &Event::Write {
-            vp,
-            register,
-            value,
-        },
-        notices,
-    )
-}
-
-/// Performs an EOM of a processor for which messages are queued. Makes the event, which is not in
-/// memory otherwise.
-#[inline(never)]
-fn end_queued(
-    board: &mut Board,
-    page: &mut LivePage,
-    vp: Vp,
-    number: u8,
-    register: u32,
-    value: u64,
-    scratch: &mut Notices,
-    notices: &mut Notices,
-) -> Reply
-    requires eom { IsEomOf board.old.state vp (Write number register value) }
-    requires shadow { IsShadow board.old.state (2 * vp) page.old }
-    requires empty { notices.old ≡ [] }
-    ensures part { IsPart board.old.state vp Sim page.old (Write number register value) board.new.state page.new result notices.new }
-    ensures probed { IsShown board.old.state vp Sim → HasProbed board.old.state vp page.old page.new }
-{
-    let event = Event::Write {
-        vp: number,
-        register,
-        value,
-    };
-    if is_shown(board, vp, Kind::Sim) {
-        end_shown(board, page, vp, &event, scratch, notices)
-    } else {
-        end_hidden(board, page, vp, &event, scratch, notices)
-    }
-}
-
-/// Performs an EOM of a processor, and brings its message page up to date.
-#[inline(always)]
+/// Performs an EOM of a processor for which messages are queued, and brings its message page up to
+/// date.
 pub(crate) fn end_on(
     board: &mut Board,
     page: &mut LivePage,
@@ -156,11 +110,10 @@ pub(crate) fn end_on(
     requires empty { notices.old ≡ [] }
     ensures part { IsPart board.old.state vp Sim page.old event.now board.new.state page.new result notices.new }
     ensures probed { IsShown board.old.state vp Sim → HasProbed board.old.state vp page.old page.new }
-    ensures idle { NoneQueued board.old.state vp → page.new ≡ page.old }
 {
-    if !is_any_queued(board, vp) {
-        return end_idle(board, page, vp, event, notices);
+    if is_shown(board, vp, Kind::Sim) {
+        end_shown(board, page, vp, event, scratch, notices)
+    } else {
+        end_hidden(board, page, vp, event, scratch, notices)
     }
-    let (number, register, value) = written(event);
-    end_queued(board, page, vp, number, register, value, scratch, notices)
 }

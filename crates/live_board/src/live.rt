@@ -2,18 +2,20 @@
 ghost use Rattle.std.specs.Prelude.{◌≡◌, ℕ, ◌<◌, ◌≤◌, ◌+◌, ◌*◌, length, false, IfOk, IfErr, IsTrue, None, Some};
 ghost use Rattle.board_terms.specs.declared.pages.Kind.TheVariants.{Sim};
 ghost use Rattle.gpa_space.specs.Space.{overlay_of};
-ghost use Rattle.synic_board.specs.declared.event.Event.TheVariants.{Post, Signal};
+ghost use Rattle.synic_regs.specs.declared.register.Register.TheVariants.{Eom};
+ghost use Rattle.synic_board.specs.declared.event.Event.TheVariants.{Write, Post, Signal};
 ghost use Rattle.synic_board.specs.State.{processors, ports_of};
 ghost use Rattle.synic_board.specs.Step.{step};
 ghost use Rattle.event_ports.specs.Ports.{port_at};
 ghost use Rattle.event_ports.specs.declared.ports.Port.{Port};
+ghost use Rattle.live_board.specs.Acting.{IsRegisterWrite, none_owed};
 ghost use Rattle.live_board.specs.Live.{IsShown, HasLooked, HasProbed, NoneQueued, log_of, IsLive, IsQuietly, IsTimed, IsTicked, IsReset, IsObserved, Shadows};
 ghost use Rattle.live_board.specs.Settling.{IsSettled};
 ghost use Rattle.live_board.specs.Timers.{is_timer_write, timer_of};
 ghost use Rattle.live_board.specs.inside.Kinds.{is_eom, eom_of};
 ghost use Rattle.live_board.specs.inside.Parts.{IsShadow};
 
-use crate::ending::{end_on, ended_by};
+use crate::ending::{end_on, ended_by, is_idle};
 use crate::observing::view_slots;
 use crate::posting::post_to;
 use crate::resetting::{clear, reset_messages};
@@ -27,6 +29,7 @@ use live_pages::{LivePage, WORDS};
 use std::alloc::{AllocError, Global};
 use std::marker::Model;
 use synic_board::{Board, Event, Reply};
+use synic_regs::msr;
 
 /// The greatest number of processors of a live board.
 pub const MOST_PROCESSORS: u8 = 8;
@@ -176,17 +179,43 @@ impl LiveBoard {
         board.perform(event, notices)
     }
 
+    /// Performs an EOM of a processor. If none of its messages is queued, nothing changes, and no page is
+    /// accessed. In line, so that this has no call.
+    #[inline(always)]
+    pub(crate) fn end_message(&mut self, vp: u8, value: u64, notices: &mut Notices) -> Reply
+        ensures { IsRegisterWrite (Some Eom) vp self.old (Write vp 0x40000084 value) self.new result none_owed notices.new }
+    {
+        if is_idle(self.board(), vp) {
+            notices.clear();
+            return Reply::Done;
+        }
+        self.end_queued(vp, value, notices)
+    }
+
+    /// Performs an EOM of a processor for which messages are queued, or which is not on the board.
+    #[inline(never)]
+    fn end_queued(&mut self, vp: u8, value: u64, notices: &mut Notices) -> Reply
+        requires { vp < processors self.old.board.state → NoneQueued self.old.board.state vp → ⊥ }
+        ensures { IsRegisterWrite (Some Eom) vp self.old (Write vp 0x40000084 value) self.new result none_owed notices.new }
+    {
+        let register = msr::EOM;
+        let event = Event::Write {
+            vp,
+            register,
+            value,
+        };
+        self.end_event(&event, notices)
+    }
+
     /// Performs an EOM. Before it the host looks at the header of the slot of each source that waits:
     /// the SynIC and its message page are enabled, and a message is queued. If the slot is occupied and
     /// not marked, the host sets MessagePending by an atomic or, and what that found decides. After it,
     /// the host stores the messages that the board placed, each header last. Replaces `notices` by those
     /// of the guest's stores that were found, and then those of the event.
-    #[inline(always)]
-    pub(crate) fn end_message(&mut self, event: &Event, notices: &mut Notices) -> Reply
+    fn end_event(&mut self, event: &Event, notices: &mut Notices) -> Reply
         requires { IsTrue (is_eom event.now) }
         ensures live { IsLive self.old event.now self.new result notices.new }
         ensures probed { (p : ℕ) → eom_of self.old.board.state event.now ≡ Some p → IsShown self.old.board.state p Sim → HasProbed self.old.board.state p (log_of self.old p Sim) (log_of self.new p Sim) }
-        ensures idle { (p : ℕ) → eom_of self.old.board.state event.now ≡ Some p → NoneQueued self.old.board.state p → self.new.pages ≡ self.old.pages }
         ensures nowhere { eom_of self.old.board.state event.now ≡ None → self.new.pages ≡ self.old.pages }
     {
         let LiveBoard {

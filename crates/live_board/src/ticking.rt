@@ -138,9 +138,7 @@ pub(crate) fn tick_from(
     }
     let page = &mut pages[2 * usize::from(number)];
     look_first(board, page, vp, scratch, notices, late);
-    let (reply, mut owed) = tick_from(board, pages, number + 1, moment, scratch, notices, late);
-    owed[usize::from(number)] = false;
-    (reply, owed)
+    tick_from(board, pages, number + 1, moment, scratch, notices, late)
 }
 
 /// The same from a processor on of which a timer in message mode is due. Out of line: an event that has

@@ -1,12 +1,14 @@
 // A write of a timer, which may deliver a message to one source of its processor.
 ghost use Rattle.std.specs.Prelude.{◌≡◌, ◌<◌, ◌*◌, [], true, false, IfSome};
+ghost use Rattle.std.specs.Option.{option_map_or};
 ghost use Rattle.board_terms.specs.declared.pages.Kind.TheVariants.{Sim};
 ghost use Rattle.stimer_bank.specs.Bank.{timer_in};
 ghost use Rattle.stimer_bank.specs.Timer.{is_direct};
+ghost use Rattle.synic_regs.specs.Registers.{register_of};
 ghost use Rattle.synic_board.specs.declared.event.Event.TheVariants.{Write};
 ghost use Rattle.synic_board.specs.State.{processors, bank_of};
 ghost use Rattle.live_board.specs.Live.{IsShown};
-ghost use Rattle.live_board.specs.Timers.{timer_of, is_direct_write};
+ghost use Rattle.live_board.specs.Timers.{is_timer_register, timer_of, is_direct_by, is_direct_write};
 ghost use Rattle.live_board.specs.inside.Parts.{IsShadow, IsTimedPart, IsTimerOf};
 
 use crate::marking::mark_slots;
@@ -17,10 +19,19 @@ use crate::publishing::{page_words, publish};
 use board_terms::{Kind, Notices, TimerId, Vp};
 use live_pages::LivePage;
 use synic_board::{Board, Event, Reply};
-use synic_regs::{Register, decode};
+use synic_regs::msr;
 
 /// The bits of a timer's configuration that a write stores (TLFS, "Synthetic Timer Configuration Register").
 const STORED: u64 = 0xf_1fff;
+
+/// Whether a register is the configuration or the count of a timer. A test of its number: a decoded
+/// register costs a call.
+#[inline(always)]
+pub(crate) fn is_timer(register: u32) -> bool
+    ensures { result ≡ option_map_or is_timer_register (register_of register) false }
+{
+    msr::STIMER0_CONFIG <= register && register <= msr::STIMER3_COUNT
+}
 
 /// The processor whose timer an event writes, if it is on the board.
 #[inline(always)]
@@ -31,10 +42,7 @@ pub(crate) fn timed_by(board: &Board, event: &Event) -> Option<Vp>
     let Event::Write { vp, register, .. } = event else {
         return None;
     };
-    let (Some(Register::TimerConfig(_)) | Some(Register::TimerCount(_))) = decode(*register) else {
-        return None;
-    };
-    if *vp >= board.processors() {
+    if !is_timer(*register) || *vp >= board.processors() {
         return None;
     }
     Vp::new(*vp)
@@ -93,24 +101,18 @@ fn time_hidden(
     (reply, false)
 }
 
-/// Whether an event writes a timer of a processor that is in direct mode then.
+/// Whether a timer is in direct mode after a write of its configuration or its count.
 #[inline(always)]
-fn is_direct(board: &Board, vp: Vp, event: &Event) -> bool
-    requires { IsTimerOf board.now.state vp event.now }
-    ensures { result ≡ is_direct_write board.now.state event.now }
+fn is_direct(board: &Board, vp: Vp, register: u32, value: u64) -> bool
+    requires { option_map_or is_timer_register (register_of register) false ≡ true }
+    ensures { result ≡ is_direct_by board.now.state vp value (register_of register) }
 {
-    let Event::Write {
-        register,
-        value,
-        ..
-    } = event
-    else {
-        return false;
-    };
-    let config = match decode(*register) {
-        Some(Register::TimerConfig(_)) => *value & STORED,
-        Some(Register::TimerCount(index)) => config_of(board, vp, index),
-        _ => 0,
+    // The two registers of each timer are consecutive.
+    let place = (register - msr::STIMER0_CONFIG) as u8;
+    let config = if place % 2 == 0 {
+        value & STORED
+    } else {
+        config_of(board, vp, place / 2)
     };
     is_direct_config(config)
 }
@@ -138,19 +140,20 @@ fn time_direct(
     board: &mut Board,
     page: &mut LivePage,
     vp: Vp,
-    event: &Event,
+    number: u8,
+    register: u32,
+    value: u64,
     scratch: &mut Notices,
     notices: &mut Notices,
 ) -> Reply
-    requires timer { IsTimerOf board.old.state vp event.now }
-    requires direct { is_direct_write board.old.state event.now ≡ true }
+    requires timer { IsTimerOf board.old.state vp (Write number register value) }
+    requires direct { is_direct_write board.old.state (Write number register value) ≡ true }
     requires shadow { IsShadow board.old.state (2 * vp) page.old }
     requires empty { notices.old ≡ [] }
-    ensures { IsTimedPart board.old.state vp page.old event.now board.new.state page.new result false notices.new }
+    ensures { IsTimedPart board.old.state vp page.old (Write number register value) board.new.state page.new result false notices.new }
 {
     view_slots(board, page, vp, scratch, notices);
     board.facts();
-    let (number, register, value) = written(event);
     perform_write(board, number, register, value, scratch, notices)
 }
 
@@ -200,9 +203,10 @@ pub(crate) fn time_on(
     requires empty { notices.old ≡ [] }
     ensures { IsTimedPart board.old.state vp page.old event.now board.new.state page.new result.0 result.1 notices.new }
 {
-    if is_direct(board, vp, event) {
-        return (time_direct(board, page, vp, event, scratch, notices), false);
-    }
     let (number, register, value) = written(event);
+    if is_direct(board, vp, register, value) {
+        let reply = time_direct(board, page, vp, number, register, value, scratch, notices);
+        return (reply, false);
+    }
     time_posted(board, page, vp, number, register, value, scratch, notices)
 }

@@ -409,6 +409,7 @@ pub record IsTickFrom (s : State) (k m : ℕ) (pages : List (List Access)) (even
   pub fills : (p i : ℕ) → p < k → i < 16 → is_slot_empty s p i ≡ true → SlotFills s p i now
   pub eight : length owed ≡ 8
   pub owes : (p : ℕ) → k ≤ p → p < k + m → slice_index_or owed p false ≡ finds_empty (marks p)
+  pub unowed : (p : ℕ) → p < k → slice_index_or owed p false ≡ false
   pub still : (p : ℕ) → p < k → AreDirectAt s p event → slice_index_or now.own (2 * p) [] ≡ slice_index_or s.own (2 * p) []
   pub direct : (p : ℕ) → k ≤ p → p < k + m → AreDirectAt s p event → (stores p ≡ []) × (marks p ≡ [])
 

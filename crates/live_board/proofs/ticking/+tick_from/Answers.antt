@@ -6,6 +6,7 @@ use Rattle.live_pages.specs.declared.access.Access.{Access}
 use Rattle.live_board.specs.Live.{AreDueDirect}
 use Rattle.live_board.specs.inside.Parts.{IsTickFrom}
 use Rattle.live_board.proofs.Shadowed.{page-at}
+use Rattle.live_board.proofs.Clocked.{none-owed as none-at}
 use Rattle.live_board.proofs.Ticked.{tick-base, tick-leaves, tick-step-at, tick-skip}
 use Rattle.live_board.proofs.ticking.+tick_from.Goals as goal
 
@@ -20,7 +21,7 @@ tick_from-returns-then-number-processors t c =
     let zero : processors s - c.args.number ≡ 0 = omega (arith, all) in
     subst (λ m. IsTickFrom s c.args.number m c.args.pages.now.items (Tick c.args.moment) c.perform_tick.new.board.state c.args.pages.now.items c.perform_tick.result none-owed c.args.notices.now c.perform_tick.new.notices c.args.late.now) (sym zero)
     (subst (λ (l : List Notice). IsTickFrom s c.args.number 0 c.args.pages.now.items (Tick c.args.moment) c.perform_tick.new.board.state c.args.pages.now.items c.perform_tick.result none-owed c.args.notices.now c.perform_tick.new.notices l) (sym c.requires.empty)
-    (tick-base _ _ _ _ _ _ _ _ _ all (c.args.moment, refl) c.facts.ensures.sound c.perform_tick.ensures refl))
+    (tick-base _ _ _ _ _ _ _ _ _ all (c.args.moment, refl) c.facts.ensures.sound c.perform_tick.ensures refl (none-at 8)))
 
 pub tick_from-returns : goal.tick_from-returns
 tick_from-returns t c =
@@ -31,7 +32,6 @@ tick_from-returns t c =
     let first = c.look_first.ensures.looks in
     let same : c.in-Some.vp ≡ k = search rules in
     let from : c.from.result ≡ k = search rules in
-    let place : c.from-2.result ≡ k = search rules in
     let index : 2 * c.from.result ≡ 2 * k = omega (arith, from) in
     let count : processors s1 ≡ processors s = ap processors first.viewed.watched.rest in
     let less : k < processors s = omega (arith, c.if-number-processors.false, c.processors.ensures.count) in
@@ -40,7 +40,7 @@ tick_from-returns t c =
     let total : processors s - k ≡ suc (processors s1 - (k + 1)) = omega (arith, less, count) in
     let page = page-at pages (2 * k) c.index_mut-page.result.now below (c.index_mut-page.ensures.value ∙ ap (λ n. get_or pages n c.index_mut-page.result.now) index) in
     let direct : AreDueDirect s c.in-Some.vp c.args.moment = c.are_due_direct.ensures.all (search rules) in
-    tick-skip s s1 c.tick_from-reply.new.board.state k _ _ _ _ _ pages c.tick_from-reply.new.pages.items _ _ _ _ _ _ _ _ _ same index place page total below eight direct first c.tick_from-reply.ensures
+    tick-skip s s1 c.tick_from.new.board.state k _ _ _ _ pages c.tick_from.new.pages.items _ _ _ _ _ _ _ _ _ same index page total below eight direct first c.tick_from.ensures
 
 pub tick_posted-finish-requires-clause-grow : goal.tick_posted-finish-requires-clause-grow
 tick_posted-finish-requires-clause-grow t c =
