@@ -19,7 +19,7 @@ use Rattle.synic_regs.proofs.Numbers.{have_their_numbers}
 use Rattle.synic_board.specs.declared.event.Event.{Event}
 use Rattle.synic_board.specs.declared.event.Event.TheVariants.{Write}
 use Rattle.synic_board.specs.declared.event.Reply.{Reply}
-use Rattle.synic_board.specs.declared.event.Reply.TheVariants.{GeneralProtection}
+use Rattle.synic_board.specs.declared.event.Reply.TheVariants.{Done, GeneralProtection}
 use Rattle.synic_board.specs.State.{State, processors, bank_of, overlay_registers}
 use Rattle.synic_board.specs.Effects.{Outcome, unchanged}
 use Rattle.synic_board.specs.Bounds.{most_notices}
@@ -252,3 +252,20 @@ part-timed-hidden s now p log log-now words event reply before after posted empt
 pub timer-few : (s : State) (p : ℕ) (event : Event) → IsTimerOf s p event → most_notices event ≤ 192
 timer-few s p (Write q number value) timer = omega arith
 timer-few s p event other = absurd other
+
+-- the reply to a write of a timer
+pub timer-done : (s now : State) (p : ℕ) (event : Event) (reply : Reply) (notices : List Notice) → IsTimerOf s p event → (now, reply, notices) ≡ step s event → reply ≡ Done
+unfolding step
+timer-done s now p (Write q number value) reply notices (on, same, timer) is = ap (λ (o : Outcome). o.1) is ∙ state ∙ by (register_of number) timer
+  where
+    there : nat_lt p (processors s) ≡ true
+    there = grind (arith, nat_tests)
+
+    state : (step s (Write q number value)).1 ≡ (option_map_or (λ r. written_register s p r value) (register_of number) (unchanged s GeneralProtection)).1
+    state = ap (λ k. (step s (Write k number value)).1) same ∙ rw there refl
+
+    by : (o : Option Register) → option_map_or is_timer_register o false ≡ true → (option_map_or (λ r. written_register s p r value) o (unchanged s GeneralProtection)).1 ≡ Done
+    by (Some (TimerConfig n)) t = refl
+    by (Some (TimerCount n)) t = refl
+    by o t = absurd (cc)
+timer-done s now p event reply notices other is = absurd other

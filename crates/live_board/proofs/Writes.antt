@@ -1,8 +1,9 @@
 -- The registers that are told apart by their numbers: EOM, those of the timers, and the others.
-use Rattle.std.proofs.Common.{◌≡◌, ◌≢◌, ◌⊎◌, inl, inr, ℕ, ◌-◌, ◌/◌, ◌%◌, ◌<◌, ◌≤◌, Bool, true, false, nat_lt, List, refl, sym, ap, ◌∙◌, arith}
+use Rattle.std.proofs.Common.{◌≡◌, ◌≢◌, ◌⊎◌, inl, inr, ℕ, ◌-◌, ◌/◌, ◌%◌, ◌<◌, ◌≤◌, Bool, true, false, nat_lt, List, set, refl, sym, ap, ◌∙◌, arith}
 use Rattle.std.specs.Prelude.{Option, None, Some}
 use Rattle.std.specs.Option.{option_map_or}
 use Rattle.std.proofs.lemmas.Bool.{cases_eq}
+use Rattle.std.proofs.lemmas.List.{set-get_or}
 use Rattle.board_terms.specs.declared.notices.Notice.{Notice}
 use Rattle.synic_regs.specs.declared.register.Register.{Register}
 use Rattle.synic_regs.specs.declared.register.Register.TheVariants.{ReferenceCounter, Eoi, Tpr, Control, Version, Sief, Sim, Eom, Source, TimerConfig, TimerCount}
@@ -15,6 +16,7 @@ use Rattle.live_board.specs.Acting.{IsRegisterWrite, IsTimedWrite, none_owed}
 use Rattle.live_board.specs.Live.{LiveModel, IsQuietly}
 use Rattle.live_board.specs.Timers.{is_timer_register}
 use Rattle.live_board.specs.inside.Kinds.{is_quiet_register}
+use Rattle.live_board.proofs.Clocked.{none-owed}
 
 -- the registers of the timers, in alternation
 pub timer-config : (n : ℕ) → 0x400000b0 ≤ n → n ≤ 0x400000b7 → (n - 0x400000b0) % 2 ≡ 0 → register_of n ≡ Some (TimerConfig ((n - 0x400000b0) / 2))
@@ -88,3 +90,7 @@ pub timer-written : (o : Option Register) (p : ℕ) (old : LiveModel) (event : E
 timer-written (Some (TimerConfig k)) p old event now reply owed notices timer h = h
 timer-written (Some (TimerCount k)) p old event now reply owed notices timer h = h
 timer-written o p old event now reply owed notices timer h = absurd (cc)
+
+-- an EOM that one processor is not owed
+pub none-owed-by : (p : ℕ) → none_owed ≡ set none_owed p false
+none-owed-by p = sym (ap (set none_owed p) (sym (none-owed 8 p)) ∙ set-get_or none_owed p false)

@@ -12,7 +12,7 @@ ghost use Rattle.live_board.specs.inside.Kinds.{IsTimerWriteBy, accessed_at};
 use crate::live::LiveBoard;
 use crate::timing::is_timer;
 use board_terms::{Notices, Owner, Refusal, Vp};
-use synic_board::{Event, Reply};
+use synic_board::{Board, Event, Reply};
 use synic_regs::msr;
 
 /// No processor is owed an EOM.
@@ -101,10 +101,28 @@ impl LiveBoard {
         self.perform_apart(&event, notices)
     }
 
+    /// Performs a write of a timer of a processor. One in direct mode comes first: its reply is known.
+    #[inline(always)]
+    fn write_timer_at(
+        &mut self,
+        vp: u8,
+        register: u32,
+        value: u64,
+        notices: &mut Notices,
+    ) -> (Reply, [bool; 8])
+        requires { IsTimerWriteBy vp (Write vp register value) }
+        ensures { IsTimedWrite (nat_lt vp (processors self.old.board.state)) vp self.old (Write vp register value) self.new result.0 result.1 notices.new }
+    {
+        if self.write_direct(vp, register, value, notices) {
+            return (Reply::Done, NONE_OWED);
+        }
+        self.write_timer_of(vp, register, value, notices)
+    }
+
     /// Performs a write of a timer of a processor. Out of line, with numbers in place of the event: it has
     /// a frame of its own, and no event in memory.
     #[inline(never)]
-    fn write_timer_at(
+    fn write_timer_of(
         &mut self,
         vp: u8,
         register: u32,
@@ -157,11 +175,20 @@ impl LiveBoard {
         ensures some { IfSome result (λ p. (p ≡ vp) × (nat_lt vp (processors self.now.board.state) ≡ true)) }
         ensures none { IfNone result (nat_lt vp (processors self.now.board.state) ≡ false) }
     {
-        self.board().facts();
-        if vp < self.board().processors() {
-            Vp::new(vp)
-        } else {
-            None
-        }
+        on_board(self.board(), vp)
+    }
+}
+
+/// A processor, if it is on a board.
+#[inline(always)]
+pub(crate) fn on_board(board: &Board, vp: u8) -> Option<Vp>
+    ensures some { IfSome result (λ p. (p ≡ vp) × (nat_lt vp (processors board.now.state) ≡ true)) }
+    ensures none { IfNone result (nat_lt vp (processors board.now.state) ≡ false) }
+{
+    board.facts();
+    if vp < board.processors() {
+        Vp::new(vp)
+    } else {
+        None
     }
 }

@@ -1,9 +1,10 @@
 // A board with live pages.
-ghost use Rattle.std.specs.Prelude.{◌≡◌, ℕ, ◌<◌, ◌≤◌, ◌+◌, ◌*◌, length, false, IfOk, IfErr, IsTrue, None, Some};
+ghost use Rattle.std.specs.Prelude.{◌≡◌, ℕ, ◌<◌, ◌≤◌, ◌+◌, ◌*◌, nat_lt, length, true, false, IfOk, IfErr, IsTrue, None, Some};
 ghost use Rattle.board_terms.specs.declared.pages.Kind.TheVariants.{Sim};
 ghost use Rattle.gpa_space.specs.Space.{overlay_of};
 ghost use Rattle.synic_regs.specs.declared.register.Register.TheVariants.{Eom};
 ghost use Rattle.synic_board.specs.declared.event.Event.TheVariants.{Write, Post, Signal};
+ghost use Rattle.synic_board.specs.declared.event.Reply.TheVariants.{Done};
 ghost use Rattle.synic_board.specs.State.{processors, ports_of};
 ghost use Rattle.synic_board.specs.Step.{step};
 ghost use Rattle.event_ports.specs.Ports.{port_at};
@@ -12,9 +13,10 @@ ghost use Rattle.live_board.specs.Acting.{IsRegisterWrite, none_owed};
 ghost use Rattle.live_board.specs.Live.{IsShown, HasLooked, HasProbed, NoneQueued, log_of, IsLive, IsQuietly, IsTimed, IsTicked, IsReset, IsObserved, Shadows};
 ghost use Rattle.live_board.specs.Settling.{IsSettled};
 ghost use Rattle.live_board.specs.Timers.{is_timer_write, timer_of};
-ghost use Rattle.live_board.specs.inside.Kinds.{is_eom, eom_of};
+ghost use Rattle.live_board.specs.inside.Kinds.{IsTimerWriteBy, is_eom, eom_of};
 ghost use Rattle.live_board.specs.inside.Parts.{IsShadow};
 
+use crate::acting::on_board;
 use crate::ending::{end_on, ended_by, is_idle};
 use crate::observing::view_slots;
 use crate::posting::post_to;
@@ -22,7 +24,7 @@ use crate::resetting::{clear, reset_messages};
 use crate::settling::settle_page;
 use crate::signalling::signal_to;
 use crate::ticking::{is_any_due, tick_from};
-use crate::timing::{time_on, timed_by};
+use crate::timing::{is_direct, time_direct, time_on, timed_by};
 use crate::words::word_at;
 use board_terms::{Kind, Moment, Notices, Vp};
 use live_pages::{LivePage, WORDS};
@@ -257,6 +259,39 @@ impl LiveBoard {
         };
         let page = &mut pages[index_of(vp, Kind::Sim)];
         time_on(board, page, vp, event, scratch, notices)
+    }
+
+    /// Performs a write of a timer that is in direct mode then, of a processor on the board, as
+    /// `write_timer`. Any other is left to the caller. Out of line, with a result in a register: the
+    /// reply is known.
+    #[inline(never)]
+    pub(crate) fn write_direct(
+        &mut self,
+        number: u8,
+        register: u32,
+        value: u64,
+        notices: &mut Notices,
+    ) -> bool
+        requires { IsTimerWriteBy number (Write number register value) }
+        ensures done { result ≡ true → (nat_lt number (processors self.old.board.state) ≡ true) × IsTimed number self.old (Write number register value) self.new Done false notices.new }
+        ensures left { result ≡ false → self.new ≡ self.old }
+    {
+        let LiveBoard {
+            board,
+            pages,
+            scratch,
+        } = self;
+        board.facts();
+        let Some(vp) = on_board(board, number) else {
+            return false;
+        };
+        if !is_direct(board, vp, register, value) {
+            return false;
+        }
+        notices.clear();
+        let page = &mut pages[index_of(vp, Kind::Sim)];
+        time_direct(board, page, vp, number, register, value, scratch, notices);
+        true
     }
 
     /// Moves the clock, in units of 100 ns. If a timer is due, the host looks at the header of each slot

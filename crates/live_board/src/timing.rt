@@ -6,6 +6,7 @@ ghost use Rattle.stimer_bank.specs.Bank.{timer_in};
 ghost use Rattle.stimer_bank.specs.Timer.{is_direct};
 ghost use Rattle.synic_regs.specs.Registers.{register_of};
 ghost use Rattle.synic_board.specs.declared.event.Event.TheVariants.{Write};
+ghost use Rattle.synic_board.specs.declared.event.Reply.TheVariants.{Done};
 ghost use Rattle.synic_board.specs.State.{processors, bank_of};
 ghost use Rattle.live_board.specs.Live.{IsShown};
 ghost use Rattle.live_board.specs.Timers.{is_timer_register, timer_of, is_direct_by, is_direct_write};
@@ -103,7 +104,7 @@ fn time_hidden(
 
 /// Whether a timer is in direct mode after a write of its configuration or its count.
 #[inline(always)]
-fn is_direct(board: &Board, vp: Vp, register: u32, value: u64) -> bool
+pub(crate) fn is_direct(board: &Board, vp: Vp, register: u32, value: u64) -> bool
     requires { option_map_or is_timer_register (register_of register) false ≡ true }
     ensures { result ≡ is_direct_by board.now.state vp value (register_of register) }
 {
@@ -136,7 +137,7 @@ fn config_of(board: &Board, vp: Vp, index: u8) -> u64
 
 /// Performs a write of a timer in direct mode, which changes no own page.
 #[inline(always)]
-fn time_direct(
+pub(crate) fn time_direct(
     board: &mut Board,
     page: &mut LivePage,
     vp: Vp,
@@ -145,16 +146,16 @@ fn time_direct(
     value: u64,
     scratch: &mut Notices,
     notices: &mut Notices,
-) -> Reply
+)
     requires timer { IsTimerOf board.old.state vp (Write number register value) }
     requires direct { is_direct_write board.old.state (Write number register value) ≡ true }
     requires shadow { IsShadow board.old.state (2 * vp) page.old }
     requires empty { notices.old ≡ [] }
-    ensures { IsTimedPart board.old.state vp page.old (Write number register value) board.new.state page.new result false notices.new }
+    ensures { IsTimedPart board.old.state vp page.old (Write number register value) board.new.state page.new Done false notices.new }
 {
     view_slots(board, page, vp, scratch, notices);
     board.facts();
-    perform_write(board, number, register, value, scratch, notices)
+    let _ = perform_write(board, number, register, value, scratch, notices);
 }
 
 /// Performs a write of a timer in message mode. Makes the event, which is not in memory otherwise.
@@ -205,8 +206,8 @@ pub(crate) fn time_on(
 {
     let (number, register, value) = written(event);
     if is_direct(board, vp, register, value) {
-        let reply = time_direct(board, page, vp, number, register, value, scratch, notices);
-        return (reply, false);
+        time_direct(board, page, vp, number, register, value, scratch, notices);
+        return (Reply::Done, false);
     }
     time_posted(board, page, vp, number, register, value, scratch, notices)
 }

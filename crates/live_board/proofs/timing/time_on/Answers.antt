@@ -2,6 +2,7 @@ use Rattle.std.proofs.Common.{rules, ◌≡◌, Bool, true, false, sym, ap, ◌�
 use Rattle.synic_regs.specs.Registers.{register_of}
 use Rattle.synic_board.specs.declared.event.Event.{Event}
 use Rattle.synic_board.specs.declared.event.Event.TheVariants.{Write}
+use Rattle.synic_board.specs.declared.event.Reply.TheVariants.{Done}
 use Rattle.live_board.specs.Timers.{is_direct_by}
 use Rattle.live_board.specs.inside.Parts.{IsTimedPart, IsTimerOf}
 use Rattle.live_board.proofs.TimedPart.{timer-as}
@@ -12,11 +13,11 @@ is_direct-requires c =
     let is = timer-as c.args.board.now.state c.args.vp _ _ _ c.args.event.now c.requires.timer c.written-number.ensures in
     (subst (λ (e : Event). IsTimerOf c.args.board.now.state c.args.vp e) is c.requires.timer).2
 
-pub time_direct-reply-requires-clause-timer : goal.time_direct-reply-requires-clause-timer
-time_direct-reply-requires-clause-timer c = subst (λ (e : Event). IsTimerOf c.args.board.now.state c.args.vp e) (timer-as c.args.board.now.state c.args.vp _ _ _ c.args.event.now c.requires.timer c.written-number.ensures) c.requires.timer
+pub time_direct-requires-clause-timer : goal.time_direct-requires-clause-timer
+time_direct-requires-clause-timer c = subst (λ (e : Event). IsTimerOf c.args.board.now.state c.args.vp e) (timer-as c.args.board.now.state c.args.vp _ _ _ c.args.event.now c.requires.timer c.written-number.ensures) c.requires.timer
 
-pub time_direct-reply-requires-clause-direct : goal.time_direct-reply-requires-clause-direct
-time_direct-reply-requires-clause-direct c =
+pub time_direct-requires-clause-direct : goal.time_direct-requires-clause-direct
+time_direct-requires-clause-direct c =
     let is = timer-as c.args.board.now.state c.args.vp _ _ _ c.args.event.now c.requires.timer c.written-number.ensures in
     let timer = subst (λ (e : Event). IsTimerOf c.args.board.now.state c.args.vp e) is c.requires.timer in
     let yes : c.is_direct.result ≡ true = search rules in
@@ -35,7 +36,7 @@ time_posted-requires-clause-posted c =
 pub returns-then-is_direct : goal.returns-then-is_direct
 returns-then-is_direct c =
     let is = timer-as c.args.board.now.state c.args.vp _ _ _ c.args.event.now c.requires.timer c.written-number.ensures in
-    subst (λ (e : Event). IsTimedPart c.args.board.now.state c.args.vp c.args.page.now e c.time_direct-reply.new.board.state c.time_direct-reply.new.page c.time_direct-reply.result false c.time_direct-reply.new.notices) (sym is) c.time_direct-reply.ensures
+    subst (λ (e : Event). IsTimedPart c.args.board.now.state c.args.vp c.args.page.now e c.time_direct.new.board.state c.time_direct.new.page Done false c.time_direct.new.notices) (sym is) c.time_direct.ensures
 
 pub returns : goal.returns
 returns c =
