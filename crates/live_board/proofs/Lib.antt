@@ -28,6 +28,7 @@ pub mod Settled
 pub mod Seen
 pub mod Signalled
 pub mod Clocked
+pub mod Looked
 pub mod Calm
 pub mod Idle
 pub mod Writes

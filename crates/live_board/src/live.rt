@@ -23,7 +23,7 @@ use crate::posting::post_to;
 use crate::resetting::{clear, reset_messages};
 use crate::settling::settle_page;
 use crate::signalling::signal_to;
-use crate::ticking::{is_any_due, tick_from};
+use crate::ticking::{are_all_direct, is_any_due, tick_direct, tick_from};
 use crate::timing::{is_direct, time_direct, time_on, timed_by};
 use crate::words::word_at;
 use board_terms::{Kind, Moment, Notices, Vp};
@@ -302,7 +302,56 @@ impl LiveBoard {
     /// processor is true, and the caller performs an EOM of it, which places the message. Replaces
     /// `notices` by those of the guest's stores that the looks found, and of the tick, and `late` by
     /// those of the stores that the ors found.
+    #[inline(always)]
     pub fn tick(
+        &mut self,
+        moment: Moment,
+        notices: &mut Notices,
+        late: &mut Notices,
+    ) -> (Reply, [bool; 8])
+        ensures { IsTicked self.old moment self.new result.0 result.1 notices.new late.new }
+    {
+        if self.tick_directly(moment, notices, late) {
+            return (Reply::Done, [false; 8]);
+        }
+        self.tick_any(moment, notices, late)
+    }
+
+    /// The same, if the clock does not go back and all timers that are due then are in direct mode. Any
+    /// other tick is left to the caller. Out of line, with a result in a register: the reply is known, and
+    /// no processor is owed an EOM.
+    #[inline(never)]
+    fn tick_directly(&mut self, moment: Moment, notices: &mut Notices, late: &mut Notices) -> bool
+        ensures done { result ≡ true → IsTicked self.old moment self.new Done none_owed notices.new late.new }
+        ensures left { result ≡ false → self.new ≡ self.old }
+    {
+        let LiveBoard {
+            board,
+            pages,
+            scratch,
+        } = self;
+        board.facts();
+        if moment < board.moment() {
+            return false;
+        }
+        if !is_any_due(board, moment) {
+            notices.clear();
+            late.clear();
+            let _ = board.perform(&Event::Tick { moment }, notices);
+            return true;
+        }
+        if !are_all_direct(board, moment) {
+            return false;
+        }
+        notices.clear();
+        late.clear();
+        tick_direct(board, pages, moment, scratch, notices, late);
+        true
+    }
+
+    /// The same for any tick.
+    #[inline(never)]
+    fn tick_any(
         &mut self,
         moment: Moment,
         notices: &mut Notices,

@@ -3,10 +3,12 @@ ghost use Rattle.std.specs.Prelude.{◌≡◌, ℕ, ◌<◌, ◌≤◌, ◌+◌,
 ghost use Rattle.stimer_bank.specs.Bank.{timer_in};
 ghost use Rattle.stimer_bank.specs.Timer.{is_due, is_direct};
 ghost use Rattle.synic_board.specs.declared.event.Event.TheVariants.{Tick};
+ghost use Rattle.synic_board.specs.declared.event.Reply.TheVariants.{Done};
 ghost use Rattle.synic_board.specs.State.{processors, bank_of};
 ghost use Rattle.live_pages.specs.Slot.{known};
+ghost use Rattle.live_board.specs.Acting.{none_owed};
 ghost use Rattle.live_board.specs.Live.{is_any_due, AreDueDirect};
-ghost use Rattle.live_board.specs.inside.Parts.{IsShadow, IsFirst, IsFinished, IsTickFrom, WordsGrow, AreKept};
+ghost use Rattle.live_board.specs.inside.Parts.{IsShadow, IsFirst, HaveLooked, IsFinished, IsTickFrom, WordsGrow, AreKept};
 
 use crate::marking::mark_slots;
 use crate::observing::view_slots;
@@ -79,6 +81,75 @@ fn look_first(
     view_slots(board, page, vp, scratch, late);
     append(late, notices);
     late.clear();
+}
+
+/// Whether the timers of all processors that are due at a time are in direct mode.
+#[inline(always)]
+pub(crate) fn are_all_direct(board: &Board, moment: Moment) -> bool
+    ensures { result ≡ true → (p : ℕ) → p < processors board.now.state → AreDueDirect board.now.state p moment }
+{
+    for number in 0..board.processors() {
+        let Some(vp) = Vp::new(number) else {
+            unreachable!()
+        };
+        if !are_due_direct(board, vp, moment) {
+            return false;
+        }
+    }
+    true
+}
+
+/// Looks at the header of each slot of each message page that the guest sees. `late` is empty before
+/// and after.
+#[inline(always)]
+fn look_at_all(
+    board: &mut Board,
+    pages: &mut Vec<LivePage>,
+    scratch: &mut Notices,
+    notices: &mut Notices,
+    late: &mut Notices,
+)
+    requires few { processors board.old.state ≤ 8 }
+    requires count { length pages.old.items ≡ 2 * processors board.old.state }
+    requires shadow { (p : ℕ) → p < processors board.old.state → IsShadow board.old.state (2 * p) (slice_index_or pages.old.items (2 * p) []) }
+    requires fresh { notices.old ≡ [] }
+    requires empty { late.old ≡ [] }
+    ensures looks { HaveLooked board.old.state pages.old.items (processors board.old.state) board.new.state pages.new.items notices.new }
+    ensures empty { late.new ≡ [] }
+{
+    board.facts();
+    for number in 0..board.processors() {
+        let Some(vp) = Vp::new(number) else {
+            unreachable!()
+        };
+        let page = &mut pages[2 * usize::from(number)];
+        look_first(board, page, vp, scratch, notices, late);
+    }
+}
+
+/// Performs a tick that does not move the clock back, and at which the due timers of all processors
+/// are in direct mode: nothing is stored or marked.
+#[inline(always)]
+pub(crate) fn tick_direct(
+    board: &mut Board,
+    pages: &mut Vec<LivePage>,
+    moment: Moment,
+    scratch: &mut Notices,
+    notices: &mut Notices,
+    late: &mut Notices,
+)
+    requires few { processors board.old.state ≤ 8 }
+    requires count { length pages.old.items ≡ 2 * processors board.old.state }
+    requires shadow { (p : ℕ) → p < processors board.old.state → IsShadow board.old.state (2 * p) (slice_index_or pages.old.items (2 * p) []) }
+    requires onward { board.old.state.moment ≤ moment }
+    requires direct { (p : ℕ) → p < processors board.old.state → AreDueDirect board.old.state p moment }
+    requires fresh { notices.old ≡ [] }
+    requires empty { late.old ≡ [] }
+    ensures { IsTickFrom board.old.state 0 (processors board.old.state) pages.old.items (Tick moment) board.new.state pages.new.items Done none_owed [] notices.new late.new }
+{
+    look_at_all(board, pages, scratch, notices, late);
+    board.facts();
+    let _ = perform_tick(board, moment, scratch, notices);
 }
 
 /// Brings a message page up to date after an event that sets at most MessagePending in its occupied

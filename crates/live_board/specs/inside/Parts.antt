@@ -1,5 +1,5 @@
 -- The parts of a call on a live board.
-use Rattle.std.specs.Prelude.{Bool, true, false, slice_index_or, ◌*◌, ◌/◌, ◌%◌, ◌^◌, ◌==◌, ◌&&◌, is_none, Option, None, Some, nat_lt, if◌then◌else◌, ◌≡◌, ◌≢◌, ◌⊎◌, ℕ, ◌≤◌, ◌<◌, List, [], ◌∷◌, ◌++◌, length, slice_index, bit_or, ◌+◌}
+use Rattle.std.specs.Prelude.{◌-◌, Bool, true, false, slice_index_or, ◌*◌, ◌/◌, ◌%◌, ◌^◌, ◌==◌, ◌&&◌, is_none, Option, None, Some, nat_lt, if◌then◌else◌, ◌≡◌, ◌≢◌, ◌⊎◌, ℕ, ◌≤◌, ◌<◌, List, [], ◌∷◌, ◌++◌, length, slice_index, bit_or, ◌+◌}
 use Rattle.board_terms.specs.declared.notices.Notice.{Notice}
 use Rattle.board_terms.specs.declared.pages.Kind.{Kind}
 use Rattle.gpa_space.specs.Space.{overlay_of}
@@ -412,6 +412,15 @@ pub record IsTickFrom (s : State) (k m : ℕ) (pages : List (List Access)) (even
   pub unowed : (p : ℕ) → p < k → slice_index_or owed p false ≡ false
   pub still : (p : ℕ) → p < k → AreDirectAt s p event → slice_index_or now.own (2 * p) [] ≡ slice_index_or s.own (2 * p) []
   pub direct : (p : ℕ) → k ≤ p → p < k + m → AreDirectAt s p event → (stores p ≡ []) × (marks p ≡ [])
+
+-- looks at the message pages below n, after which a tick on the others is one on all, if the due timers of these are in direct mode
+pub record HaveLooked (s : State) (pages : List (List Access)) (n : ℕ) (mid : State) (pages_mid : List (List Access)) (notices : List Notice) : Type 0 where
+  pub rest : mid ≡ record s { own = mid.own; slots = mid.slots }
+  pub size : length pages_mid ≡ length pages
+  pub few : length notices ≤ 16 * n
+  pub shadow : (p : ℕ) → n ≤ p → p < processors s → IsShadow mid (2 * p) (slice_index_or pages_mid (2 * p) [])
+  pub before : (event : Event) (now : State) (pages_now : List (List Access)) (reply : Reply) (owed : List Bool) (after late : List Notice) → ((p : ℕ) → p < n → AreDirectAt s p event)
+      → IsTickFrom mid n (processors s - n) pages_mid event now pages_now reply owed notices after late → IsTickFrom s 0 (processors s) pages event now pages_now reply owed [] after late
 
 -- all words of a page are stored, below n
 pub record IsCleared (n : ℕ) (log now : List Access) : Type 0 where

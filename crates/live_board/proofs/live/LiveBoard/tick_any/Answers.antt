@@ -3,7 +3,7 @@ use Rattle.synic_board.specs.State.{processors}
 use Rattle.live_board.specs.Live.{is_any_due}
 use Rattle.live_board.proofs.Clocked.{early-own, ticked-early, ticked-due, ticked-shadows, ticked-at, none-owed}
 use Rattle.live_board.proofs.Shadowed.{same-shadows}
-use Rattle.live_board.proofs.live.LiveBoard.tick.Goals as goal
+use Rattle.live_board.proofs.live.LiveBoard.tick_any.Goals as goal
 
 pub invariant_of-self : goal.invariant_of-self
 invariant_of-self c =
