@@ -27,6 +27,7 @@ pub mod Shadowed
 pub mod Settled
 pub mod Seen
 pub mod Signalled
+pub mod Again
 pub mod Clocked
 pub mod Looked
 pub mod Calm

@@ -1,5 +1,5 @@
 // A board with live pages.
-ghost use Rattle.std.specs.Prelude.{◌≡◌, ℕ, ◌<◌, ◌≤◌, ◌+◌, ◌*◌, nat_lt, length, true, false, IfOk, IfErr, IsTrue, None, Some};
+ghost use Rattle.std.specs.Prelude.{◌≡◌, ℕ, ◌<◌, ◌≤◌, ◌+◌, ◌*◌, nat_lt, length, true, false, IfOk, IfErr, IfSome, IfNone, IsTrue, None, Some};
 ghost use Rattle.board_terms.specs.declared.pages.Kind.TheVariants.{Sim};
 ghost use Rattle.gpa_space.specs.Space.{overlay_of};
 ghost use Rattle.synic_regs.specs.declared.register.Register.TheVariants.{Eom};
@@ -14,15 +14,16 @@ ghost use Rattle.live_board.specs.Live.{IsShown, HasLooked, HasProbed, NoneQueue
 ghost use Rattle.live_board.specs.Settling.{IsSettled};
 ghost use Rattle.live_board.specs.Timers.{is_timer_write, timer_of};
 ghost use Rattle.live_board.specs.inside.Kinds.{IsTimerWriteBy, is_eom, eom_of};
-ghost use Rattle.live_board.specs.inside.Parts.{IsShadow};
+ghost use Rattle.live_board.specs.inside.Parts.{IsShadow, IsUnseen, signal_reply};
 
 use crate::acting::on_board;
 use crate::ending::{end_on, ended_by, is_idle};
 use crate::observing::view_slots;
+use crate::passing::is_shown;
 use crate::posting::post_to;
 use crate::resetting::{clear, reset_messages};
 use crate::settling::settle_page;
-use crate::signalling::signal_to;
+use crate::signalling::{flag_of, signal_shown, signal_to};
 use crate::ticking::{are_all_direct, is_any_due, tick_direct, tick_from};
 use crate::timing::{is_direct, time_direct, time_on, timed_by};
 use crate::words::word_at;
@@ -153,7 +154,50 @@ impl LiveBoard {
     /// atomic or first, and the board learns what the word was. So the reply says whether the flag was
     /// clear in the live page. Replaces `notices` by those of the guest's stores that were found, and
     /// then those of the signal.
+    #[inline(always)]
     pub fn signal(&mut self, port: u8, flag: u16, notices: &mut Notices) -> Reply
+        ensures { IsLive self.old (Signal port flag) self.new result notices.new }
+    {
+        match self.signal_seen(port, flag, notices) {
+            Some(true) => Reply::FlagWasSet,
+            Some(false) => Reply::FlagWasClear,
+            None => self.signal_unseen(port, flag, notices),
+        }
+    }
+
+    /// The same, if the board accepts the signal and the guest sees the event flags page: returns whether
+    /// the flag was set. Any other signal is left to the caller. Out of line, with a result in a register.
+    #[inline(never)]
+    fn signal_seen(&mut self, port: u8, flag: u16, notices: &mut Notices) -> Option<bool>
+        ensures some { IfSome result (λ was. IsLive self.old (Signal port flag) self.new (signal_reply was) notices.new) }
+        ensures left { IfNone result (self.new ≡ self.old) }
+        ensures unseen { IfNone result (IsUnseen self.old.board.state port flag) }
+    {
+        let LiveBoard {
+            board,
+            pages,
+            scratch,
+        } = self;
+        board.facts();
+        let Some(target) = board.port(port) else {
+            return None;
+        };
+        let Some(place) = flag_of(board, port, flag, &target) else {
+            return None;
+        };
+        if !is_shown(board, target.vp, Kind::Sief) {
+            return None;
+        }
+        notices.clear();
+        let page = &mut pages[index_of(target.vp, Kind::Sief)];
+        let was = signal_shown(board, page, &target, port, flag, place, scratch, notices);
+        Some(was)
+    }
+
+    /// The same for a signal that the board refuses, or of a page that the guest does not see.
+    #[inline(never)]
+    fn signal_unseen(&mut self, port: u8, flag: u16, notices: &mut Notices) -> Reply
+        requires { IsUnseen self.old.board.state port flag }
         ensures { IsLive self.old (Signal port flag) self.new result notices.new }
     {
         let LiveBoard {

@@ -4,9 +4,9 @@ use Rattle.board_terms.specs.declared.notices.Notice.{Notice}
 use Rattle.board_terms.specs.declared.pages.Kind.{Kind}
 use Rattle.gpa_space.specs.Space.{overlay_of}
 use Rattle.event_ports.specs.declared.ports.Port.{Port}
-use Rattle.event_ports.specs.Ports.{is_posted_type}
+use Rattle.event_ports.specs.Ports.{port_at, is_posted_type}
 use Rattle.event_ports.specs.Shapes.{takes_messages}
-use Rattle.synic_board.specs.State.{State, processors, regs_of}
+use Rattle.synic_board.specs.State.{State, processors, ports_of, regs_of}
 use Rattle.synic_board.specs.Delivery.{delivers, is_slot_empty}
 use Rattle.synic_board.specs.Slots.{slot_byte}
 use Rattle.board_terms.specs.declared.messages.PortShape.{PortShape}
@@ -21,7 +21,8 @@ use Rattle.synic_board.specs.declared.event.Event.TheVariants.{Write, Tick}
 use Rattle.synic_regs.specs.declared.register.Register.TheVariants.{Eom}
 use Rattle.synic_regs.specs.Registers.{register_of}
 use Rattle.synic_board.specs.declared.event.Reply.{Reply}
-use Rattle.board_terms.specs.declared.pages.Kind.TheVariants.{Sim}
+use Rattle.synic_board.specs.declared.event.Reply.TheVariants.{FlagWasSet, FlagWasClear}
+use Rattle.board_terms.specs.declared.pages.Kind.TheVariants.{Sim, Sief}
 use Rattle.live_pages.specs.Slot.{known, type_of, is_pending}
 use Rattle.live_pages.specs.declared.access.Access.{Access}
 use Rattle.live_pages.specs.declared.access.Access.TheVariants.{Load, FetchOr}
@@ -178,6 +179,15 @@ flag_by s p flag (Flags base count) = if nat_lt flag count && (has (regs_of s p)
 
 abbrev pub signalled_flag : State → ℕ → Port → Option ℕ
 signalled_flag s flag port = flag_by s port.vp flag port.shape
+
+-- the reply to a signal that is accepted: whether the flag was set
+abbrev pub signal_reply : Bool → Reply
+signal_reply true = FlagWasSet
+signal_reply false = FlagWasClear
+
+-- a signal that the board refuses, or of a flag in a page that the guest does not see
+abbrev pub IsUnseen : State → ℕ → ℕ → Type 0
+IsUnseen s number flag = (port : Port) (f : ℕ) → port_at (ports_of s) number ≡ Some port → signalled_flag s flag port ≡ Some f → IsShown s port.vp Sief → ⊥
 
 -- looks at the headers of the slots below n of a message page, after which it is a shadow
 pub record IsLooks (s : State) (p : ℕ) (log : List Access) (now : State) (log_now : List Access) (notices : List Notice) (n : ℕ) : Type 0 where

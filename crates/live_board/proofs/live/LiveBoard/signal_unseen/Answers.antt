@@ -2,9 +2,10 @@ use Rattle.std.proofs.Common.{rules, ◌<◌, ◌+◌, ◌*◌, ℕ, List, sym, 
 use Rattle.board_terms.specs.declared.pages.Kind.TheVariants.{Sief}
 use Rattle.synic_board.specs.State.{State}
 use Rattle.live_pages.specs.declared.access.Access.{Access}
-use Rattle.live_board.specs.Live.{Shadows}
+use Rattle.live_board.specs.Live.{LiveModel, Shadows}
+use Rattle.live_board.specs.inside.Parts.{IsUnseen}
 use Rattle.live_board.proofs.Shadowed.{part-shadows, part-live, untouched-live, same-shadows, not-signalled, page-at, part-at, live-at, indexed-live}
-use Rattle.live_board.proofs.live.LiveBoard.signal.Goals as goal
+use Rattle.live_board.proofs.live.LiveBoard.signal_unseen.Goals as goal
 
 pub invariant_of-self : goal.invariant_of-self
 invariant_of-self c = same-shadows _ _ _ (not-signalled _ _ _ _ _ _ (search rules) c.perform.ensures.performs.step) c.self.invariant
@@ -35,3 +36,8 @@ returns c =
     let part = part-at s p Sief _ _ _ _ _ _ _ page c.signal_to.ensures in
     live-at _ _ _ _ _ _ c.self.view_is (indexed-live _ _ _ _ _ _ _ _ _ c.index_of.ensures
     (part-live c.self.inside.board c.signal_to.new.board pages p Sief _ _ _ _ part))
+
+pub signal_to-requires-clause-hidden : goal.signal_to-requires-clause-hidden
+signal_to-requires-clause-hidden c f is =
+    let unseen = subst (λ (m : LiveModel). IsUnseen m.board.state c.args.port c.args.flag) (sym c.self.view_is) c.requires in
+    unseen c.in-Some.target f (search rules) is
