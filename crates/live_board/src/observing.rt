@@ -1,7 +1,8 @@
 // Looks at the message slots of a live page.
-ghost use Rattle.std.specs.Prelude.{◌≡◌, ◌<◌, ◌*◌, [], IfNone, IfSome};
+ghost use Rattle.std.specs.Prelude.{◌≡◌, ◌<◌, ◌*◌, List, [], IfNone, IfSome};
 ghost use Rattle.board_terms.specs.declared.pages.Kind.TheVariants.{Sim};
 ghost use Rattle.synic_board.specs.State.{processors};
+ghost use Rattle.live_pages.specs.declared.access.Access.{Access};
 ghost use Rattle.live_board.specs.Live.{IsShown};
 ghost use Rattle.live_board.specs.inside.Parts.{IsShadow, IsLooks, IsOther, IsViewed};
 
@@ -37,6 +38,31 @@ fn look_until_other(board: &Board, page: &mut LivePage, vp: Vp) -> Option<(usize
     None
 }
 
+/// Passes the header of a slot that is not what the board has to the board, and looks at the slots after
+/// it. Out of line: in most looks there is no such slot.
+#[cold]
+#[inline(never)]
+fn look_on(
+    board: &mut Board,
+    page: &mut LivePage,
+    vp: Vp,
+    other: usize,
+    found: u64,
+    scratch: &mut Notices,
+    notices: &mut Notices,
+)
+    requires on { vp < processors board.old.state }
+    requires shown { IsShown board.old.state vp Sim }
+    requires other { (log : List Access) × IsOther board.old.state vp other found log page.old }
+    requires empty { notices.old ≡ [] }
+    ensures { (log : List Access) → IsOther board.old.state vp other found log page.old → IsLooks board.old.state vp log board.new.state page.new notices.new 16 }
+{
+    pass(board, vp, Kind::Sim, 32 * other, found, scratch, notices);
+    for slot in other + 1..SLOTS {
+        look(board, page, vp, Kind::Sim, 32 * slot, scratch, notices);
+    }
+}
+
 /// Looks at the header of each slot of a message page that the guest sees.
 #[inline(always)]
 pub(crate) fn look_at_slots(
@@ -52,12 +78,8 @@ pub(crate) fn look_at_slots(
     requires empty { notices.old ≡ [] }
     ensures { IsLooks board.old.state vp page.old board.new.state page.new notices.new 16 }
 {
-    let Some((other, found)) = look_until_other(board, page, vp) else {
-        return;
-    };
-    pass(board, vp, Kind::Sim, 32 * other, found, scratch, notices);
-    for slot in other + 1..SLOTS {
-        look(board, page, vp, Kind::Sim, 32 * slot, scratch, notices);
+    if let Some((other, found)) = look_until_other(board, page, vp) {
+        look_on(board, page, vp, other, found, scratch, notices);
     }
 }
 

@@ -63,6 +63,7 @@ fn are_due_direct(board: &Board, vp: Vp, moment: Moment) -> bool
 
 /// Looks at the header of each slot of a message page that the guest sees. `late` is empty before and
 /// after.
+#[inline(always)]
 fn look_first(
     board: &mut Board,
     page: &mut LivePage,
