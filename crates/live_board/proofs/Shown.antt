@@ -1,5 +1,5 @@
 -- A guest's store of a word of an overlay that it sees.
-use Rattle.std.proofs.Common.{◌≡◌, ◌≢◌, ℕ, zero, suc, ◌+◌, ◌*◌, ◌/◌, ◌%◌, ◌<◌, Bool, true, false, List, [], ◌∷◌, ◌++◌, get_or, set, Option, None, Some, refl, sym, ap, ◌∙◌, arith, nat_lt, append-nil}
+use Rattle.std.proofs.Common.{◌≡◌, ◌≢◌, ℕ, zero, suc, ◌+◌, ◌*◌, ◌/◌, ◌%◌, ◌<◌, ◌≤◌, ◌⊎◌, inl, inr, Bool, true, false, List, [], ◌∷◌, ◌++◌, length, get_or, set, Option, None, Some, refl, sym, ap, ◌∙◌, arith, nat_lt, append-nil}
 use Rattle.std.specs.Prelude.{◌==◌, if◌then◌else◌}
 use Rattle.std.specs.Option.{option_map_or}
 use Rattle.std.specs.Int.{to_le_bytes, w64}
@@ -8,6 +8,9 @@ use Rattle.std.proofs.lemmas.Bool.Decides.{nat_tests}
 use Rattle.board_terms.specs.declared.notices.Notice.{Notice}
 use Rattle.board_terms.specs.declared.pages.Kind.{Kind}
 use Rattle.board_terms.specs.declared.pages.Kind.TheVariants as kind
+use Rattle.std.proofs.lemmas.Bool.{cases_lt}
+use Rattle.std.proofs.lemmas.List.FromFn.{get_or-map-range_with_len, length-map-range_with_len}
+use Rattle.synic_board.specs.Summaries.{owners_of}
 use Rattle.board_terms.specs.declared.pages.Owner.{Owner}
 use Rattle.board_terms.specs.declared.pages.Owner.TheVariants.{Guest, Sim, Sief, Nothing}
 use Rattle.gpa_space.specs.Page.{overwritten}
@@ -134,3 +137,16 @@ passed-other s now p k w value reply notices other shown low is =
     let e : (value == word_of s (overlay_of p k) w) ≡ false = grind (arith, nat_tests) in
     let done : reply ≡ Done = ap (λ (o : Outcome). o.1) (is ∙ stored-word s p k w value shown low) in
     rw e (let run = sym is ∙ ap (λ r. (now, r, notices)) done in ap (λ (o : Outcome). (o.0, o.1 ∷ [], o.2 ++ [])) run ∙ ap (λ (ns : List Notice). (now, Done ∷ [], ns)) (append-nil notices))
+
+-- the owner that the summary has for a page, if it has one
+beyond : (os : List Owner) (i : ℕ) (d : Owner) → length os ≤ i → get_or os i d ≡ d
+beyond [] i d h = refl
+beyond (o ∷ os) zero d h = absurd (omega (arith, h))
+beyond (o ∷ os) (suc i) d h = beyond os i d (omega (arith, h))
+
+pub seen-owner : (s : Space) (page : ℕ) (owner : Owner) → get_or (owners_of s) page Nothing ≡ owner → owner ≢ Nothing → owner_of s page ≡ owner
+seen-owner s page owner is some = by (cases_lt page (length s.pages))
+  where
+    by : (page < length s.pages) ⊎ (length s.pages ≤ page) → owner_of s page ≡ owner
+    by (inl low) = sym (get_or-map-range_with_len (owner_of s) 0 (length s.pages) page page Nothing low (omega arith)) ∙ is
+    by (inr high) = absurd (some (sym is ∙ beyond (owners_of s) page Nothing (omega (arith, length-map-range_with_len (owner_of s) 0 (length s.pages), high))))

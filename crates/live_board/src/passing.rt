@@ -1,7 +1,8 @@
 // Passes words that the host found to the board, as stores of the guest.
 ghost use Rattle.std.specs.Prelude.{◌≡◌, ◌≢◌, ◌<◌, ◌↔◌, ◌^◌, IsTrue, length};
-ghost use Rattle.gpa_space.specs.Space.{overlay_of};
-ghost use Rattle.synic_board.specs.State.{processors};
+ghost use Rattle.board_terms.specs.declared.pages.Owner.TheVariants.{Nothing};
+ghost use Rattle.gpa_space.specs.Space.{overlay_of, owner_of};
+ghost use Rattle.synic_board.specs.State.{processors, space_of};
 ghost use Rattle.live_pages.specs.Slot.{known};
 ghost use Rattle.live_board.specs.Live.{number_at, IsShown};
 ghost use Rattle.live_board.specs.Words.{word_of};
@@ -27,6 +28,16 @@ fn number(board: &Board, vp: Vp, kind: Kind) -> u64
     register / 4096
 }
 
+/// Whether a guest sees the own page of an overlay at a page number. For a page that the board holds the
+/// summary answers, in fewer steps than the space.
+#[inline(always)]
+fn is_seen(board: &Board, page: u64, owner: Owner) -> bool
+    requires { owner ≢ Nothing }
+    ensures { IsTrue result ↔ (owner_of (space_of board.now.state) page ≡ owner) }
+{
+    board.summary().owner(page) == owner || board.owner(page) == owner
+}
+
 /// Whether a guest sees an overlay at the page number in its register.
 #[inline(always)]
 pub(crate) fn is_shown(board: &Board, vp: Vp, kind: Kind) -> bool
@@ -37,7 +48,7 @@ pub(crate) fn is_shown(board: &Board, vp: Vp, kind: Kind) -> bool
         Kind::Sim => Owner::Sim(vp),
         Kind::Sief => Owner::Sief(vp),
     };
-    board.owner(number(board, vp, kind)) == owner
+    is_seen(board, number(board, vp, kind), owner)
 }
 
 /// A word, 0 to 511, of an own page of the board.
