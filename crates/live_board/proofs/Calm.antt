@@ -1,5 +1,5 @@
 -- A quiet event changes no own page.
-use Rattle.std.proofs.Common.{◌≡◌, ◌⊎◌, inl, inr, ℕ, zero, suc, ◌+◌, ◌*◌, ◌/◌, ◌%◌, ◌^◌, ◌<◌, ◌==◌, Bool, true, false, ◌&&◌, not, List, [], length, set, refl, sym, ap, ◌∙◌, arith, nat_lt, nat_le}
+use Rattle.std.proofs.Common.{◌≡◌, ◌≢◌, ◌⊎◌, inl, inr, ℕ, zero, suc, ◌+◌, ◌*◌, ◌/◌, ◌%◌, ◌^◌, ◌<◌, ◌==◌, Bool, true, false, ◌&&◌, not, List, [], length, set, refl, sym, ap, ◌∙◌, arith, nat_lt, nat_le}
 use Rattle.std.specs.Prelude.{Option, None, Some, is_none, Ok, Err, Result, ◌||◌, if◌then◌else◌}
 use Rattle.std.specs.Int.{bit_at}
 use Rattle.std.specs.Option.{option_map_or}
@@ -34,7 +34,10 @@ use Rattle.synic_board.specs.Resetting.{reset}
 use Rattle.synic_board.specs.Stores.{stored_bytes, consumed_in}
 use Rattle.synic_board.specs.Step.{step}
 use Rattle.synic_board.proofs.keeping.Requests.{either}
-use Rattle.live_board.specs.Timers.{is_timer_write, timer_of}
+use Rattle.synic_regs.proofs.Numbers.{have_their_numbers}
+use Rattle.live_board.specs.Acting.{IsRegisterWrite, none_owed}
+use Rattle.live_board.specs.Live.{LiveModel, IsQuietly}
+use Rattle.live_board.specs.Timers.{is_timer_register, is_timer_write, timer_of}
 use Rattle.live_board.specs.inside.Kinds.{IsWriteTo, IsTimerWriteBy, is_quiet, is_quiet_register, is_eom, is_eom_register, eom_of, accessed_at}
 use Rattle.live_board.proofs.Tried.{own-requested}
 
@@ -235,3 +238,36 @@ eom-cases s p number e to = by (nat_lt p (processors s)) refl
 pub quiet-is : (p number : ℕ) (e : Event) → IsWriteTo p number e → option_map_or is_quiet_register (register_of number) true ≡ true → is_quiet e ≡ true
 quiet-is p number (Write q other value) (same, names) quiet = ap (λ n. option_map_or is_quiet_register (register_of n) true) names ∙ quiet
 quiet-is p number e other quiet = absurd other
+
+-- a register that is neither EOM nor a timer's
+pub quiet-other : (n : ℕ) → n ≢ 0x40000084 → option_map_or is_timer_register (register_of n) false ≡ false → option_map_or is_quiet_register (register_of n) true ≡ true
+quiet-other n apart none = by (register_of n) refl none
+  where
+    by : (o : Option Register) → register_of n ≡ o → option_map_or is_timer_register o false ≡ false → option_map_or is_quiet_register o true ≡ true
+    by None is t = refl
+    by (Some ReferenceCounter) is t = refl
+    by (Some Eoi) is t = refl
+    by (Some Tpr) is t = refl
+    by (Some Control) is t = refl
+    by (Some Version) is t = refl
+    by (Some Sief) is t = refl
+    by (Some Sim) is t = refl
+    by (Some Eom) is t = absurd (apart (sym ((have_their_numbers n Eom).0 is).1))
+    by (Some (Source k)) is t = refl
+    by (Some (TimerConfig k)) is t = absurd (cc)
+    by (Some (TimerCount k)) is t = absurd (cc)
+
+pub quiet-written : (o : Option Register) (p : ℕ) (old : LiveModel) (event : Event) (now : LiveModel) (reply : Reply) (notices : List Notice) → option_map_or is_quiet_register o true ≡ true → IsQuietly old event now reply notices
+    → IsRegisterWrite o p old event now reply none_owed notices
+quiet-written None p old event now reply notices quiet h = (h, refl)
+quiet-written (Some ReferenceCounter) p old event now reply notices quiet h = (h, refl)
+quiet-written (Some Eoi) p old event now reply notices quiet h = (h, refl)
+quiet-written (Some Tpr) p old event now reply notices quiet h = (h, refl)
+quiet-written (Some Control) p old event now reply notices quiet h = (h, refl)
+quiet-written (Some Version) p old event now reply notices quiet h = (h, refl)
+quiet-written (Some Sief) p old event now reply notices quiet h = (h, refl)
+quiet-written (Some Sim) p old event now reply notices quiet h = (h, refl)
+quiet-written (Some Eom) p old event now reply notices quiet h = absurd (cc)
+quiet-written (Some (Source k)) p old event now reply notices quiet h = (h, refl)
+quiet-written (Some (TimerConfig k)) p old event now reply notices quiet h = absurd (cc)
+quiet-written (Some (TimerCount k)) p old event now reply notices quiet h = absurd (cc)

@@ -35,7 +35,7 @@ use Rattle.synic_board.proofs.keeping.Wholes.{kept_from_sound}
 use Rattle.live_pages.specs.Slot.{known, type_of}
 use Rattle.live_pages.specs.declared.access.Access.{Access}
 use Rattle.live_board.specs.Words.{word_at, word_of}
-use Rattle.live_board.specs.Timers.{is_timer_register, is_direct_write}
+use Rattle.live_board.specs.Timers.{is_timer_register, is_timer_write, is_direct_write}
 use Rattle.live_board.specs.Live.{explained, explained_after, all_done, number_at, AreCareful, IsShown}
 use Rattle.live_board.specs.inside.Parts.{IsStep, IsLooks, IsPublished, MayBeMarked, IsMarking, IsTimedPart, IsTimerOf, SlotGrows, WordsGrow}
 use Rattle.live_board.proofs.Bytes.{word-bytes, same-word, joined-set}
@@ -51,9 +51,9 @@ timer-on s p (Write q number value) (on, same, timer) = on
 timer-on s p event other = absurd other
 
 -- a write of a timer by what it writes
-pub timer-as : (s : State) (p a n v : ℕ) (event : Event) → IsTimerOf s p event → ((q number value : ℕ) → event ≡ Write q number value → event ≡ Write a n v) → event ≡ Write a n v
-timer-as s p a n v (Write q number value) timer by = by q number value refl
-timer-as s p a n v event other by = absurd other
+pub timer-write-as : (a n v : ℕ) (event : Event) → is_timer_write event ≡ true → ((q number value : ℕ) → event ≡ Write q number value → event ≡ Write a n v) → event ≡ Write a n v
+timer-write-as a n v (Write q number value) timer by = by q number value refl
+timer-write-as a n v event timer by = absurd (cc)
 
 timer-fits : (s : State) (p : ℕ) (event : Event) → IsTimerOf s p event → PayloadFits event
 timer-fits s p (Write q number value) timer = tt

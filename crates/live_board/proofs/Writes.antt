@@ -1,21 +1,20 @@
--- The registers that are told apart by their numbers: EOM, those of the timers, and the others.
+-- The registers of the timers, which are told from the others by their numbers.
 use Rattle.std.proofs.Common.{◌≡◌, ◌≢◌, ◌⊎◌, inl, inr, ℕ, ◌-◌, ◌/◌, ◌%◌, ◌<◌, ◌≤◌, Bool, true, false, nat_lt, List, set, refl, sym, ap, ◌∙◌, arith}
-use Rattle.std.specs.Prelude.{Option, None, Some}
+use Rattle.std.specs.Prelude.{Option, Some}
 use Rattle.std.specs.Option.{option_map_or}
 use Rattle.std.proofs.lemmas.Bool.{cases_eq}
 use Rattle.std.proofs.lemmas.List.{set-get_or}
 use Rattle.board_terms.specs.declared.notices.Notice.{Notice}
 use Rattle.synic_regs.specs.declared.register.Register.{Register}
-use Rattle.synic_regs.specs.declared.register.Register.TheVariants.{ReferenceCounter, Eoi, Tpr, Control, Version, Sief, Sim, Eom, Source, TimerConfig, TimerCount}
+use Rattle.synic_regs.specs.declared.register.Register.TheVariants.{TimerConfig, TimerCount}
 use Rattle.synic_regs.specs.Registers.{register_of}
 use Rattle.synic_regs.proofs.Numbers.{have_their_numbers}
 use Rattle.synic_board.specs.declared.event.Event.{Event}
 use Rattle.synic_board.specs.declared.event.Reply.{Reply}
 use Rattle.synic_board.specs.State.{processors}
 use Rattle.live_board.specs.Acting.{IsRegisterWrite, IsTimedWrite, none_owed}
-use Rattle.live_board.specs.Live.{LiveModel, IsQuietly}
+use Rattle.live_board.specs.Live.{LiveModel}
 use Rattle.live_board.specs.Timers.{is_timer_register}
-use Rattle.live_board.specs.inside.Kinds.{is_quiet_register}
 use Rattle.live_board.proofs.Clocked.{none-owed}
 
 -- the registers of the timers, in alternation
@@ -51,40 +50,7 @@ timer-outside n out = by (option_map_or is_timer_register (register_of n) false)
     by true is = absurd (no out (timer-range n is))
     by false is = is
 
--- the others
-pub quiet-other : (n : ℕ) → n ≢ 0x40000084 → option_map_or is_timer_register (register_of n) false ≡ false → option_map_or is_quiet_register (register_of n) true ≡ true
-quiet-other n apart none = by (register_of n) refl none
-  where
-    by : (o : Option Register) → register_of n ≡ o → option_map_or is_timer_register o false ≡ false → option_map_or is_quiet_register o true ≡ true
-    by None is t = refl
-    by (Some ReferenceCounter) is t = refl
-    by (Some Eoi) is t = refl
-    by (Some Tpr) is t = refl
-    by (Some Control) is t = refl
-    by (Some Version) is t = refl
-    by (Some Sief) is t = refl
-    by (Some Sim) is t = refl
-    by (Some Eom) is t = absurd (apart (sym ((have_their_numbers n Eom).0 is).1))
-    by (Some (Source k)) is t = refl
-    by (Some (TimerConfig k)) is t = absurd (cc)
-    by (Some (TimerCount k)) is t = absurd (cc)
-
--- what a write of each is
-pub quiet-written : (o : Option Register) (p : ℕ) (old : LiveModel) (event : Event) (now : LiveModel) (reply : Reply) (notices : List Notice) → option_map_or is_quiet_register o true ≡ true → IsQuietly old event now reply notices
-    → IsRegisterWrite o p old event now reply none_owed notices
-quiet-written None p old event now reply notices quiet h = (h, refl)
-quiet-written (Some ReferenceCounter) p old event now reply notices quiet h = (h, refl)
-quiet-written (Some Eoi) p old event now reply notices quiet h = (h, refl)
-quiet-written (Some Tpr) p old event now reply notices quiet h = (h, refl)
-quiet-written (Some Control) p old event now reply notices quiet h = (h, refl)
-quiet-written (Some Version) p old event now reply notices quiet h = (h, refl)
-quiet-written (Some Sief) p old event now reply notices quiet h = (h, refl)
-quiet-written (Some Sim) p old event now reply notices quiet h = (h, refl)
-quiet-written (Some Eom) p old event now reply notices quiet h = absurd (cc)
-quiet-written (Some (Source k)) p old event now reply notices quiet h = (h, refl)
-quiet-written (Some (TimerConfig k)) p old event now reply notices quiet h = absurd (cc)
-quiet-written (Some (TimerCount k)) p old event now reply notices quiet h = absurd (cc)
-
+-- what a write of a timer is
 pub timer-written : (o : Option Register) (p : ℕ) (old : LiveModel) (event : Event) (now : LiveModel) (reply : Reply) (owed : List Bool) (notices : List Notice) → option_map_or is_timer_register o false ≡ true
     → IsTimedWrite (nat_lt p (processors old.board.state)) p old event now reply owed notices → IsRegisterWrite o p old event now reply owed notices
 timer-written (Some (TimerConfig k)) p old event now reply owed notices timer h = h

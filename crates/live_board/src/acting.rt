@@ -1,5 +1,5 @@
 // Any event of a board with live pages.
-ghost use Rattle.std.specs.Prelude.{◌≡◌, ◌/◌, nat_lt, true, false, Some, IfSome, IfNone};
+ghost use Rattle.std.specs.Prelude.{◌≡◌, ℕ, ◌/◌, nat_lt, true, false, Some, IfSome, IfNone};
 ghost use Rattle.gpa_space.specs.Space.{is_covered};
 ghost use Rattle.synic_regs.specs.Registers.{register_of};
 ghost use Rattle.synic_board.specs.declared.event.Event.TheVariants.{Write};
@@ -7,6 +7,7 @@ ghost use Rattle.synic_board.specs.State.{processors, space_of};
 ghost use Rattle.synic_board.specs.Step.{step};
 ghost use Rattle.live_board.specs.Acting.{Acts, IsAccess, IsRegisterWrite, IsTimedWrite};
 ghost use Rattle.live_board.specs.Live.{IsQuietly};
+ghost use Rattle.live_board.specs.Timers.{timer_of, is_direct_write};
 ghost use Rattle.live_board.specs.inside.Kinds.{IsTimerWriteBy, accessed_at};
 
 use crate::live::LiveBoard;
@@ -119,8 +120,8 @@ impl LiveBoard {
         self.write_timer_of(vp, register, value, notices)
     }
 
-    /// Performs a write of a timer of a processor. Out of line, with numbers in place of the event: it has
-    /// a frame of its own, and no event in memory.
+    /// Performs a write of a timer of a processor, in message mode. Out of line, with numbers in place of
+    /// the event: it has a frame of its own, and no event in memory.
     #[inline(never)]
     fn write_timer_of(
         &mut self,
@@ -129,7 +130,8 @@ impl LiveBoard {
         value: u64,
         notices: &mut Notices,
     ) -> (Reply, [bool; 8])
-        requires { IsTimerWriteBy vp (Write vp register value) }
+        requires timer { IsTimerWriteBy vp (Write vp register value) }
+        requires posted { (p : ℕ) → timer_of self.old.board.state (Write vp register value) ≡ Some p → is_direct_write self.old.board.state (Write vp register value) ≡ false }
         ensures { IsTimedWrite (nat_lt vp (processors self.old.board.state)) vp self.old (Write vp register value) self.new result.0 result.1 notices.new }
     {
         self.facts();
@@ -140,7 +142,7 @@ impl LiveBoard {
             register,
             value,
         };
-        let (reply, is_owed) = self.write_timer(&event, notices);
+        let (reply, is_owed) = self.write_posted(&event, notices);
         let mut owed = NONE_OWED;
         if let Some(vp) = target {
             owed[usize::from(vp.number())] = is_owed;

@@ -12,7 +12,7 @@ ghost use Rattle.event_ports.specs.declared.ports.Port.{Port};
 ghost use Rattle.live_board.specs.Acting.{IsRegisterWrite, none_owed};
 ghost use Rattle.live_board.specs.Live.{IsShown, HasLooked, HasProbed, NoneQueued, log_of, IsLive, IsQuietly, IsTimed, IsTicked, IsReset, IsObserved, Shadows};
 ghost use Rattle.live_board.specs.Settling.{IsSettled};
-ghost use Rattle.live_board.specs.Timers.{is_timer_write, timer_of};
+ghost use Rattle.live_board.specs.Timers.{is_timer_write, timer_of, is_direct_write};
 ghost use Rattle.live_board.specs.inside.Kinds.{IsTimerWriteBy, is_eom, eom_of};
 ghost use Rattle.live_board.specs.inside.Parts.{IsShadow, IsUnseen, signal_reply};
 
@@ -20,12 +20,13 @@ use crate::acting::on_board;
 use crate::ending::{end_on, ended_by, is_idle};
 use crate::observing::view_slots;
 use crate::passing::is_shown;
+use crate::performing::written;
 use crate::posting::post_to;
 use crate::resetting::{clear, reset_messages};
 use crate::settling::settle_page;
 use crate::signalling::{flag_of, signal_shown, signal_to};
 use crate::ticking::{are_all_direct, is_any_due, tick_direct, tick_from};
-use crate::timing::{is_direct, time_direct, time_on, timed_by};
+use crate::timing::{is_direct, time_direct, time_posted, timed_by};
 use crate::words::word_at;
 use board_terms::{Kind, Moment, Notices, Vp};
 use live_pages::{LivePage, WORDS};
@@ -285,9 +286,22 @@ impl LiveBoard {
     /// not see MessagePending: then the second answer is true, and the caller performs an EOM of the
     /// processor, which places the message. Replaces `notices` by those of the guest's stores that the
     /// looks found, of the event, and of the stores that the or found.
-    #[inline(always)]
     pub fn write_timer(&mut self, event: &Event, notices: &mut Notices) -> (Reply, bool)
         requires { IsTrue (is_timer_write event.now) }
+        ensures timed { (p : ℕ) → timer_of self.old.board.state event.now ≡ Some p → IsTimed p self.old event.now self.new result.0 result.1 notices.new }
+        ensures refused { timer_of self.old.board.state event.now ≡ None → IsQuietly self.old event.now self.new result.0 notices.new × (result.1 ≡ false) }
+    {
+        let (number, register, value) = written(event);
+        if self.write_direct(number, register, value, notices) {
+            return (Reply::Done, false);
+        }
+        self.write_posted(event, notices)
+    }
+
+    /// The same for a timer in message mode, or of a processor that is not on the board.
+    pub(crate) fn write_posted(&mut self, event: &Event, notices: &mut Notices) -> (Reply, bool)
+        requires timer { IsTrue (is_timer_write event.now) }
+        requires posted { (p : ℕ) → timer_of self.old.board.state event.now ≡ Some p → is_direct_write self.old.board.state event.now ≡ false }
         ensures timed { (p : ℕ) → timer_of self.old.board.state event.now ≡ Some p → IsTimed p self.old event.now self.new result.0 result.1 notices.new }
         ensures refused { timer_of self.old.board.state event.now ≡ None → IsQuietly self.old event.now self.new result.0 notices.new × (result.1 ≡ false) }
     {
@@ -302,7 +316,7 @@ impl LiveBoard {
             return (board.perform(event, notices), false);
         };
         let page = &mut pages[index_of(vp, Kind::Sim)];
-        time_on(board, page, vp, event, scratch, notices)
+        time_posted(board, page, vp, event, scratch, notices)
     }
 
     /// Performs a write of a timer that is in direct mode then, of a processor on the board, as
@@ -319,6 +333,7 @@ impl LiveBoard {
         requires { IsTimerWriteBy number (Write number register value) }
         ensures done { result ≡ true → (nat_lt number (processors self.old.board.state) ≡ true) × IsTimed number self.old (Write number register value) self.new Done false notices.new }
         ensures left { result ≡ false → self.new ≡ self.old }
+        ensures posted { result ≡ false → (p : ℕ) → timer_of self.old.board.state (Write number register value) ≡ Some p → is_direct_write self.old.board.state (Write number register value) ≡ false }
     {
         let LiveBoard {
             board,

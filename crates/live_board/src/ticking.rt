@@ -90,10 +90,10 @@ pub(crate) fn are_all_direct(board: &Board, moment: Moment) -> bool
     ensures { result ≡ true → (p : ℕ) → p < processors board.now.state → AreDueDirect board.now.state p moment }
 {
     for number in 0..board.processors() {
-        let Some(vp) = Vp::new(number) else {
+        let Some(processor) = Vp::new(number) else {
             unreachable!()
         };
-        if !are_due_direct(board, vp, moment) {
+        if !are_due_direct(board, processor, moment) {
             return false;
         }
     }

@@ -15,7 +15,7 @@ ghost use Rattle.live_board.specs.inside.Parts.{IsShadow, IsTimedPart, IsTimerOf
 use crate::marking::mark_slots;
 use crate::observing::{look_at_slots, view_slots};
 use crate::passing::is_shown;
-use crate::performing::{perform_after, perform_write, written};
+use crate::performing::{perform_after, perform_write};
 use crate::publishing::{page_words, publish};
 use board_terms::{Kind, Notices, TimerId, Vp};
 use live_pages::LivePage;
@@ -158,40 +158,9 @@ pub(crate) fn time_direct(
     let _ = perform_write(board, number, register, value, scratch, notices);
 }
 
-/// Performs a write of a timer in message mode. Makes the event, which is not in memory otherwise.
-#[inline(never)]
-fn time_posted(
-    board: &mut Board,
-    page: &mut LivePage,
-    vp: Vp,
-    number: u8,
-    register: u32,
-    value: u64,
-    scratch: &mut Notices,
-    notices: &mut Notices,
-) -> (Reply, bool)
-    requires timer { IsTimerOf board.old.state vp (Write number register value) }
-    requires posted { is_direct_write board.old.state (Write number register value) ≡ false }
-    requires shadow { IsShadow board.old.state (2 * vp) page.old }
-    requires empty { notices.old ≡ [] }
-    ensures { IsTimedPart board.old.state vp page.old (Write number register value) board.new.state page.new result.0 result.1 notices.new }
-{
-    let event = Event::Write {
-        vp: number,
-        register,
-        value,
-    };
-    if is_shown(board, vp, Kind::Sim) {
-        time_shown(board, page, vp, &event, scratch, notices)
-    } else {
-        time_hidden(board, page, vp, &event, scratch, notices)
-    }
-}
-
-/// Performs a write of a timer of a processor, and brings its message page up to date. Returns
-/// whether the processor is owed an EOM.
-#[inline(always)]
-pub(crate) fn time_on(
+/// Performs a write of a timer of a processor, in message mode, and brings its message page up to date.
+/// Returns whether the processor is owed an EOM.
+pub(crate) fn time_posted(
     board: &mut Board,
     page: &mut LivePage,
     vp: Vp,
@@ -200,14 +169,14 @@ pub(crate) fn time_on(
     notices: &mut Notices,
 ) -> (Reply, bool)
     requires timer { IsTimerOf board.old.state vp event.now }
+    requires posted { is_direct_write board.old.state event.now ≡ false }
     requires shadow { IsShadow board.old.state (2 * vp) page.old }
     requires empty { notices.old ≡ [] }
     ensures { IsTimedPart board.old.state vp page.old event.now board.new.state page.new result.0 result.1 notices.new }
 {
-    let (number, register, value) = written(event);
-    if is_direct(board, vp, register, value) {
-        time_direct(board, page, vp, number, register, value, scratch, notices);
-        return (Reply::Done, false);
+    if is_shown(board, vp, Kind::Sim) {
+        time_shown(board, page, vp, event, scratch, notices)
+    } else {
+        time_hidden(board, page, vp, event, scratch, notices)
     }
-    time_posted(board, page, vp, number, register, value, scratch, notices)
 }

@@ -4,8 +4,8 @@ use Rattle.synic_regs.specs.Registers.{register_of}
 use Rattle.synic_board.specs.declared.event.Event.TheVariants.{Write}
 use Rattle.live_board.specs.Acting.{IsRegisterWrite, none_owed}
 use Rattle.live_board.specs.Timers.{is_timer_register}
-use Rattle.live_board.proofs.Calm.{same-own}
-use Rattle.live_board.proofs.Writes.{quiet-other, quiet-written, timer-written}
+use Rattle.live_board.proofs.Calm.{same-own, quiet-other, quiet-written}
+use Rattle.live_board.proofs.Writes.{timer-written}
 use Rattle.live_board.proofs.live.LiveBoard.write.Goals as goal
 
 pub write_apart-requires : goal.write_apart-requires

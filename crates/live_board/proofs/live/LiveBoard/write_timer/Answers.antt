@@ -1,42 +1,60 @@
-use Rattle.std.proofs.Common.{rules, ◌≡◌, ◌<◌, ◌*◌, ℕ, List, refl, sym, ap, ◌∙◌, subst, arith, set, get_or, length}
-use Rattle.std.specs.Prelude.{Some}
-use Rattle.synic_board.specs.State.{State}
-use Rattle.live_pages.specs.declared.access.Access.{Access}
-use Rattle.live_board.specs.Live.{LiveModel, Shadows, IsTimed}
-use Rattle.live_board.specs.Timers.{timer_of}
-use Rattle.live_board.specs.inside.Parts.{IsTimedPart}
-use Rattle.live_board.proofs.Calm.{not-timed-own}
-use Rattle.live_board.proofs.TimedPart.{timer-on}
-use Rattle.live_board.proofs.Shadowed.{live, timed-at, timed-shadows, same-shadows, quietly-at, page-at}
+use Rattle.std.proofs.Common.{rules, ◌≡◌, ℕ, true, false, refl, sym, ap, ◌∙◌, subst}
+use Rattle.std.specs.Prelude.{None, Some}
+use Rattle.synic_board.specs.declared.event.Event.{Event}
+use Rattle.synic_board.specs.declared.event.Event.TheVariants.{Write}
+use Rattle.synic_board.specs.declared.event.Reply.TheVariants.{Done}
+use Rattle.live_board.specs.Live.{LiveModel, IsQuietly, IsTimed}
+use Rattle.live_board.specs.Timers.{is_timer_write, timer_of, is_direct_write}
+use Rattle.live_board.specs.inside.Kinds.{IsTimerWriteBy}
+use Rattle.live_board.proofs.Calm.{timer-there}
+use Rattle.live_board.proofs.TimedPart.{timer-write-as}
 use Rattle.live_board.proofs.live.LiveBoard.write_timer.Goals as goal
 
-pub invariant_of-self : goal.invariant_of-self
-invariant_of-self c = same-shadows _ _ _ (not-timed-own _ _ _ _ _ c.requires (search rules) c.perform.ensures.performs.step) c.self.invariant
+pub write_direct-requires : goal.write_direct-requires
+write_direct-requires c =
+    let is = timer-write-as _ _ _ c.args.event.now c.requires c.written-number.ensures in
+    let timer = subst (λ (e : Event). is_timer_write e ≡ true) is c.requires in
+    (refl, timer)
 
-pub returns-in_default-clause-refused : goal.returns-in_default-clause-refused
-returns-in_default-clause-refused c none = (quietly-at _ _ _ _ _ _ c.self.view_is (record { pages = refl; performs = c.perform.ensures.performs }), refl)
+pub write_posted-requires-clause-posted : goal.write_posted-requires-clause-posted
+write_posted-requires-clause-posted c =
+    let is = timer-write-as _ _ _ c.args.event.now c.requires c.written-number.ensures in
+    let no : c.write_direct.result ≡ false = search rules in
+    let posted = subst (λ (e : Event). (p : ℕ) → timer_of c.args.self.now.board.state e ≡ Some p → is_direct_write c.args.self.now.board.state e ≡ false) (sym is) (c.write_direct.ensures.posted no) in
+    subst (λ (m : LiveModel). (p : ℕ) → timer_of m.board.state c.args.event.now ≡ Some p → is_direct_write m.board.state c.args.event.now ≡ false) (sym (c.write_direct.ensures.left no)) posted
 
-pub invariant_of-self-2 : goal.invariant_of-self-2
-invariant_of-self-2 c =
-    let s : State = c.self.inside.board.state in
-    let pages : List (List Access) = c.self.inside.pages.items in
-    let p : ℕ = c.in-Some.vp in
-    let on = timer-on s p c.args.event.now (search rules) in
-    let inside : 2 * p < length s.own = omega (arith, on, c.facts.ensures.shape.overlays) in
-    let there : 2 * p < length pages = omega (arith, inside, c.self.invariant.count) in
-    let page = page-at pages (2 * p) c.index_mut-page.result.now there (c.index_mut-page.ensures.value ∙ ap (λ n. get_or pages n c.index_mut-page.result.now) c.index_of.ensures) in
-    let part = subst (λ l. IsTimedPart s p l c.args.event.now c.time_on.new.board.state c.time_on.new.page c.time_on.result.0 c.time_on.result.1 c.time_on.new.notices) page c.time_on.ensures in
-    subst (λ n. Shadows c.time_on.new.board.state (set pages n c.time_on.new.page)) (sym c.index_of.ensures) (timed-shadows s _ pages p _ _ _ _ _ inside c.self.invariant part)
+pub returns-then-write_direct-clause-timed : goal.returns-then-write_direct-clause-timed
+returns-then-write_direct-clause-timed c p at =
+    let is = timer-write-as _ _ _ c.args.event.now c.requires c.written-number.ensures in
+    let timer = subst (λ (e : Event). is_timer_write e ≡ true) is c.requires in
+    let yes : c.write_direct.result ≡ true = search rules in
+    let done = c.write_direct.ensures.done yes in
+    let number : ℕ = c.written-number.result.0 in
+    let event : Event = Write number c.written-number.result.1 c.written-number.result.2 in
+    let by : IsTimerWriteBy number event = (refl, timer) in
+    let there = sym (timer-there c.args.self.now.board.state number event by done.0) ∙ subst (λ (e : Event). timer_of c.args.self.now.board.state e ≡ Some p) is at in
+    let same : number ≡ p = cc in
+    subst (λ q. IsTimed q c.args.self.now c.args.event.now c.write_direct.new.self Done false c.write_direct.new.notices) same
+    (subst (λ (e : Event). IsTimed number c.args.self.now e c.write_direct.new.self Done false c.write_direct.new.notices) (sym is) done.1)
+
+pub returns-then-write_direct-clause-refused : goal.returns-then-write_direct-clause-refused
+returns-then-write_direct-clause-refused c none =
+    let is = timer-write-as _ _ _ c.args.event.now c.requires c.written-number.ensures in
+    let timer = subst (λ (e : Event). is_timer_write e ≡ true) is c.requires in
+    let yes : c.write_direct.result ≡ true = search rules in
+    let done = c.write_direct.ensures.done yes in
+    let number : ℕ = c.written-number.result.0 in
+    let event : Event = Write number c.written-number.result.1 c.written-number.result.2 in
+    let by : IsTimerWriteBy number event = (refl, timer) in
+    let there = sym (timer-there c.args.self.now.board.state number event by done.0) ∙ subst (λ (e : Event). timer_of c.args.self.now.board.state e ≡ None) is none in
+    absurd (cc)
 
 pub returns-clause-timed : goal.returns-clause-timed
-returns-clause-timed c p is =
-    let s : State = c.self.inside.board.state in
-    let pages : List (List Access) = c.self.inside.pages.items in
-    let at = λ (m : LiveModel). timer_of m.board.state c.args.event.now ≡ Some p in
-    let here : timer_of s c.args.event.now ≡ Some p = subst at (sym c.self.view_is) is in
-    let same : c.in-Some.vp ≡ p = search rules in
-    let on = timer-on s c.in-Some.vp c.args.event.now (search rules) in
-    let there : 2 * c.in-Some.vp < length pages = omega (arith, on, c.facts.ensures.shape.overlays, c.self.invariant.count) in
-    let page = page-at pages (2 * c.in-Some.vp) c.index_mut-page.result.now there (c.index_mut-page.ensures.value ∙ ap (λ n. get_or pages n c.index_mut-page.result.now) c.index_of.ensures) in
-    subst (λ n. IsTimed n c.args.self.now c.args.event.now (live c.time_on.new.board (set pages c.index_of.result c.time_on.new.page)) c.time_on.result.0 c.time_on.result.1 c.time_on.new.notices) same
-    (timed-at c.self.inside.board c.time_on.new.board pages c.args.self.now c.in-Some.vp c.index_of.result c.index_mut-page.result.now c.time_on.new.page _ _ _ _ c.self.view_is c.index_of.ensures page c.time_on.ensures)
+returns-clause-timed c =
+    let no : c.write_direct.result ≡ false = search rules in
+    subst (λ (m : LiveModel). (p : ℕ) → timer_of m.board.state c.args.event.now ≡ Some p → IsTimed p m c.args.event.now c.write_posted.new.self c.write_posted.result.0 c.write_posted.result.1 c.write_posted.new.notices) (c.write_direct.ensures.left no) c.write_posted.ensures.timed
+
+pub returns-clause-refused : goal.returns-clause-refused
+returns-clause-refused c =
+    let no : c.write_direct.result ≡ false = search rules in
+    subst (λ (m : LiveModel). timer_of m.board.state c.args.event.now ≡ None → IsQuietly m c.args.event.now c.write_posted.new.self c.write_posted.result.0 c.write_posted.new.notices × (c.write_posted.result.1 ≡ false)) (c.write_direct.ensures.left no) c.write_posted.ensures.refused
