@@ -13,7 +13,7 @@ static uint64_t tsc_offset;     /* the guest's TSC minus that of the host */
 static uint64_t stopped_tsc, stopped_time;      /* of the guest, when it was stopped to be saved */
 static int timer = -1;
 static pthread_mutex_t arming = PTHREAD_MUTEX_INITIALIZER;
-static _Atomic uint64_t wanted = UINT64_MAX, armed = UINT64_MAX;
+static _Atomic uint64_t wanted = UINT64_MAX, armed;     /* 0 if the timer is to be set again */
 
 static uint64_t guest_tsc(void)
 {
@@ -82,10 +82,11 @@ static void *run_timer(void *unused)
     (void)unused;
     while (read(timer, &expirations, sizeof expirations) == sizeof expirations) {
         pthread_mutex_lock(&arming);
-        armed = UINT64_MAX;
+        armed = 0;
         pthread_mutex_unlock(&arming);
         lock_acquire();
         board_advance();
+        irqchip_wake();
         lock_release();
     }
     return NULL;
@@ -117,8 +118,10 @@ void clock_want(uint64_t time)
 static void set_timer(uint64_t time)
 {
     struct itimerspec setting = { 0 };
-    if (time != UINT64_MAX) {
+    if (time != UINT64_MAX || vm.misses_wakes) {
         uint64_t now = clock_now(), left = time > now ? time - now : 0;
+        if (vm.misses_wakes && left > IRQCHIP_WAKE)
+            left = IRQCHIP_WAKE;
         setting.it_value.tv_sec = left / 10000000;
         setting.it_value.tv_nsec = left % 10000000 * 100 + 1;   /* zero would disarm it */
     }

@@ -4,6 +4,7 @@
 #include <errno.h>
 #include <sched.h>
 #include <sys/ioctl.h>
+#include <unistd.h>
 
 #include "vmm.h"
 
@@ -19,6 +20,7 @@ void irqchip_open(void)
     struct kvm_enable_cap cap = { .cap = KVM_CAP_SPLIT_IRQCHIP, .args = { IOAPIC_ROUTES } };
     if (vm.has_irqchip && ioctl(vm.fd, KVM_ENABLE_CAP, &cap) != 0)
         fail("KVM_CAP_SPLIT_IRQCHIP");
+    vm.misses_wakes = vm.has_irqchip && access("/sys/module/kvm_pvm", F_OK) == 0;
 }
 
 void irqchip_mark(uint8_t vp)
@@ -45,6 +47,22 @@ static void trace_taken(uint8_t vp, const synicboard_forwarded *forwarded)
     }
 }
 
+/* Where KVM has no hardware below it (kvm_pvm, Linux 6.18), an interrupt does not always wake a processor that
+ * halts: it sleeps until a signal ends KVM_RUN, and finds the interrupt when it enters again. There a processor in
+ * the guest gets a signal after the board's vectors are injected, and each 20 ms for all other interrupts. A signal
+ * before KVM_RUN is lost, but KVM_RUN finds what was injected before it. */
+static void wake(const struct vp *vp)
+{
+    if (vm.misses_wakes && vp->is_in_guest)
+        lock_interrupt(vp);
+}
+
+void irqchip_wake(void)
+{
+    for (unsigned vp = 0; vp < vm.vps; vp++)
+        wake(&vm.vp[vp]);
+}
+
 static void collect(uint8_t vp)
 {
     synicboard_forwarded forwarded;
@@ -52,6 +70,7 @@ static void collect(uint8_t vp)
     trace_taken(vp, &forwarded);
     for (unsigned word = 0; word < 4; word++)
         collected[vp].words[word] |= forwarded.vectors[word];
+    wake(&vm.vp[vp]);
 }
 
 void irqchip_collect(void)

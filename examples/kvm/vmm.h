@@ -71,6 +71,7 @@ struct vm {
     const char *trace;          /* the file that gets the trace of the board; null for none */
     bool pages_trap;            /* the guest's stores to message and event flags pages exit */
     bool has_irqchip;           /* the local APICs are KVM's */
+    bool misses_wakes;          /* KVM's local APICs do not always wake a processor (irqchip.c) */
     struct vmbus_options vmbus;
     uint64_t tsc_hz;
     uint64_t slot_changes, emulated;
@@ -139,6 +140,8 @@ bool irqchip_take(struct vectors vectors[MOST_VPS]);    /* what they forwarded; 
 void irqchip_inject(const struct vectors vectors[MOST_VPS]);    /* injects that, without the lock */
 void irqchip_request(uint8_t vp, uint8_t vector);   /* needs no lock */
 void irqchip_wait(void);                    /* until all that was taken is injected */
+enum { IRQCHIP_WAKE = 200000 };             /* 20 ms */
+void irqchip_wake(void);                    /* processors whose interrupt KVM may have missed */
 
 /* state.c */
 void state_get(struct vp *vp);

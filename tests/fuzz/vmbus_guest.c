@@ -35,6 +35,7 @@ void lock_acquire(void) {}
 void lock_release(void) {}
 void lock_wait(struct condition *condition) { (void)condition; }
 void lock_signal(struct condition *condition) { (void)condition; }
+void lock_interrupt(const struct vp *vp) { (void)vp; }
 uint64_t clock_now(void) { return guest_time; }
 void clock_want(uint64_t time) { (void)time; }
 void overlay_set(void) {}
