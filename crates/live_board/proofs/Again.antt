@@ -1,5 +1,5 @@
 -- A signal of a flag that is set, or that is not.
-use Rattle.std.proofs.Common.{◌≡◌, ℕ, ◌+◌, ◌*◌, ◌/◌, ◌%◌, ◌^◌, ◌<◌, Bool, true, false, ◌&&◌, List, [], length, get_or, set, Option, None, Some, Ok, Err, refl, sym, ap, ◌∙◌, subst, arith, nat_lt, append-nil}
+use Rattle.std.proofs.Common.{◌≡◌, ℕ, ◌+◌, ◌*◌, ◌/◌, ◌%◌, ◌^◌, ◌<◌, Bool, true, false, ◌&&◌, List, [], get_or, set, None, Some, Ok, Err, refl, sym, ap, ◌∙◌, arith, nat_lt, append-nil}
 use Rattle.std.specs.Prelude.{◌==◌, not, bit_or, if◌then◌else◌}
 use Rattle.std.specs.Int.{bit_at}
 use Rattle.std.specs.Option.{option_map_or}

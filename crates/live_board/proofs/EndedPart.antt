@@ -8,14 +8,10 @@ use Rattle.board_terms.specs.declared.messages.Message.{Message}
 use Rattle.board_terms.specs.declared.notices.Notice.{Notice}
 use Rattle.board_terms.specs.declared.pages.Kind.TheVariants.{Sim}
 use Rattle.message_queues.specs.Image.{slot_type}
-use Rattle.synic_regs.specs.declared.register.Register.TheVariants.{Eom}
-use Rattle.synic_regs.proofs.Numbers.{have_their_numbers}
 use Rattle.synic_board.specs.declared.event.Event.{Event}
 use Rattle.synic_board.specs.declared.event.Event.TheVariants.{Write}
 use Rattle.synic_board.specs.declared.event.Reply.{Reply}
 use Rattle.synic_board.specs.State.{State, processors}
-use Rattle.synic_board.specs.Effects.{Outcome}
-use Rattle.synic_board.specs.Run.{run_of}
 use Rattle.synic_board.specs.Delivery.{delivers, is_slot_empty}
 use Rattle.synic_board.specs.Ranges.{HasRanges}
 use Rattle.synic_board.specs.Sound.{IsSound, HasShape, PayloadFits}

@@ -1,11 +1,10 @@
 -- An EOM of a processor with no queued message changes nothing.
-use Rattle.std.proofs.Common.{◌≡◌, ℕ, zero, suc, ◌<◌, ◌≤◌, true, false, nat_lt, Some, List, [], ◌∷◌, refl, sym, ap, ◌∙◌, arith}
+use Rattle.std.proofs.Common.{◌≡◌, ℕ, zero, suc, ◌<◌, true, false, nat_lt, Some, List, [], refl, sym, ap, ◌∙◌, arith}
 use Rattle.std.specs.Prelude.{if◌then◌else◌}
 use Rattle.std.proofs.lemmas.Bool.Decides.{nat_tests}
 use Rattle.board_terms.specs.declared.notices.Notice.{Notice}
 use Rattle.synic_regs.specs.declared.register.Register.TheVariants.{Eom}
 use Rattle.synic_board.specs.declared.event.Event.TheVariants.{Write}
-use Rattle.synic_board.specs.declared.event.Reply.{Reply}
 use Rattle.synic_board.specs.declared.event.Reply.TheVariants.{Done}
 use Rattle.synic_board.specs.State.{State, processors}
 use Rattle.synic_board.specs.Effects.{Effect, nothing, after, answered}

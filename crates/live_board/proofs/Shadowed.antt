@@ -21,7 +21,7 @@ use Rattle.synic_board.specs.Run.{run_of}
 use Rattle.live_pages.specs.Slot.{known}
 use Rattle.live_pages.specs.declared.access.Access.{Access}
 use Rattle.live_board.specs.Words.{word_of}
-use Rattle.live_board.specs.Live.{LiveModel, Shadows, IsLive, IsQuietly, IsObserved, IsShown, IsTimed, IsReset, HasProbed, NoneQueued, log_of}
+use Rattle.live_board.specs.Live.{LiveModel, Shadows, IsLive, IsQuietly, IsObserved, IsShown, IsTimed, IsReset, HasProbed, log_of}
 use Rattle.live_board.specs.inside.Parts.{IsShadow, LeavesOthers, IsPart, IsTimedPart, IsViewed, IsResetPart, IsCleared}
 
 abbrev pub live : BoardModel → List (List Access) → LiveModel

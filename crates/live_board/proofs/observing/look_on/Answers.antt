@@ -1,4 +1,4 @@
-use Rattle.std.proofs.Common.{rules, ◌≡◌, ◌*◌, arith, ap, subst}
+use Rattle.std.proofs.Common.{◌≡◌, ◌*◌, arith, ap, subst}
 use Rattle.board_terms.specs.declared.pages.Kind.TheVariants.{Sim}
 use Rattle.synic_board.specs.State.{processors}
 use Rattle.live_board.specs.inside.Parts.{IsLooks, IsPassedOn}

@@ -1,9 +1,8 @@
 use Rattle.std.proofs.Common.{rules, ◌≡◌, ◌<◌, ◌*◌, ◌+◌, ◌/◌, ◌%◌, ◌^◌, true, false, arith, refl, sym, ap, ◌∙◌, subst, Some}
 use Rattle.event_ports.specs.Ports.{port_at}
-use Rattle.gpa_space.specs.Space.{is_flag_set}
 use Rattle.synic_board.specs.declared.event.Event.TheVariants.{Signal}
 use Rattle.synic_board.specs.declared.event.Reply.{Reply}
-use Rattle.synic_board.specs.State.{State, processors, ports_of, space_of}
+use Rattle.synic_board.specs.State.{State, processors, ports_of}
 use Rattle.live_board.specs.inside.Parts.{IsStep}
 use Rattle.live_board.proofs.Again.{set-again, set-anew, flag-seen}
 use Rattle.live_board.proofs.Signalled.{set-by, part-marked, rest-signalled, mark-at}

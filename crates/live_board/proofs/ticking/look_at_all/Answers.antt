@@ -1,4 +1,4 @@
-use Rattle.std.proofs.Common.{rules, ◌≡◌, ◌<◌, ◌*◌, ℕ, List, ap, ◌∙◌, arith, get_or, length}
+use Rattle.std.proofs.Common.{rules, ◌≡◌, ◌<◌, ◌*◌, ℕ, List, ap, ◌∙◌, arith, get_or}
 use Rattle.synic_board.specs.State.{State, processors}
 use Rattle.live_pages.specs.declared.access.Access.{Access}
 use Rattle.live_board.proofs.Looked.{looked-start, looked-more}

@@ -1,9 +1,8 @@
-use Rattle.std.proofs.Common.{rules, ◌<◌, ◌+◌, ◌*◌, ℕ, List, sym, ap, ◌∙◌, subst, arith, set, get_or, length}
+use Rattle.std.proofs.Common.{rules, ◌<◌, ◌+◌, ◌*◌, ℕ, List, ap, ◌∙◌, arith, get_or, length}
 use Rattle.board_terms.specs.declared.pages.Kind.TheVariants.{Sief}
 use Rattle.synic_board.specs.State.{State}
 use Rattle.live_pages.specs.declared.access.Access.{Access}
-use Rattle.live_board.specs.Live.{Shadows}
-use Rattle.live_board.proofs.Shadowed.{part-shadows, part-live, page-at, part-at, live-at, indexed-live}
+use Rattle.live_board.proofs.Shadowed.{part-live, page-at, part-at, live-at, indexed-live}
 use Rattle.live_board.proofs.live.LiveBoard.signal_seen.Goals as goal
 
 pub returns-clause-some : goal.returns-clause-some
