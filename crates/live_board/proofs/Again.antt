@@ -33,7 +33,8 @@ use Rattle.live_board.proofs.Signalled.{flags_of, flag-bytes}
 abbrev is_enabled : State → ℕ → Bool
 is_enabled s p = has (regs_of s p).control enable && has (regs_of s p).sief enable
 
-placed-at : (s : State) (number flag place : ℕ) (port : Port) → port_at (ports_of s) number ≡ Some port → signalled_flag s flag port ≡ Some place
+placed-at : (s : State) (number flag place : ℕ) (port : Port) → port_at (ports_of s) number ≡ Some port
+    → signalled_flag s flag port ≡ Some place
     → (signalled s number flag ≡ signalled_place s (port.vp, port.sint, place)) × (is_enabled s port.vp ≡ true)
 placed-at s number flag place port there is =
     let h = shaped port.shape is in
@@ -46,12 +47,14 @@ placed-at s number flag place port there is =
     i = port.sint
 
     shaped : (shape : PortShape) → flag_by s p flag shape ≡ Some place
-        → (signalled_at s (flag_place_at flag (record { vp = p; sint = i; shape = shape }) shape) ≡ signalled_place s (p, i, place)) × (is_enabled s p ≡ true)
+        → (signalled_at s (flag_place_at flag (record { vp = p; sint = i; shape = shape }) shape)
+        ≡ signalled_place s (p, i, place)) × (is_enabled s p ≡ true)
     shaped (Messages buffers) none = absurd (cc)
     shaped (Flags base count) some = valid (nat_lt flag count) (is_enabled s p) refl some
       where
         valid : (a b : Bool) → is_enabled s p ≡ b → (if a && b then Some (base + flag) else None) ≡ Some place
-            → (signalled_at s (if a then Ok (p, i, base + flag) else Err BadFlag) ≡ signalled_place s (p, i, place)) × (is_enabled s p ≡ true)
+            → (signalled_at s (if a then Ok (p, i, base + flag) else Err BadFlag) ≡ signalled_place s (p, i, place))
+            × (is_enabled s p ≡ true)
         valid true true e h = let same : base + flag ≡ place = cc in (ap (λ f. signalled_place s (p, i, f)) same, e)
         valid true false e h = absurd (cc)
         valid false b e h = absurd (cc)
@@ -66,23 +69,32 @@ same-bit page at k is = ap (set page at) (or-same (get_or page at 0) k is) ∙ s
 same-flag : (s : State) (p i f : ℕ) → is_flag_set (space_of s) p i f ≡ true → with_flag s p i f ≡ s
 same-flag s p i f is =
     let bit : bit_at (get_or (flags_of s p) (flag_place i f) 0) (f % 8) ≡ 1 = grind (arith, nat_tests) in
-    ap (λ own. record s { own = own }) (ap (set s.own (2 * p + 1)) (same-bit (flags_of s p) (flag_place i f) (f % 8) bit) ∙ set-get_or s.own (2 * p + 1) [])
+    ap (λ own. record s { own = own })
+    (ap (set s.own (2 * p + 1)) (same-bit (flags_of s p) (flag_place i f) (f % 8) bit)
+    ∙ set-get_or s.own (2 * p + 1) [])
 
 placed-by : (s : State) (p i f : ℕ) (b : Bool) → is_enabled s p ≡ true → is_flag_set (space_of s) p i f ≡ b
-    → signalled_place s (p, i, f) ≡ (if b then unchanged (with_flag s p i f) FlagWasSet else answered FlagWasClear (after (flagged s p i f) (raised (with_flag s p i f) p i)))
+    → signalled_place s (p, i, f)
+    ≡ (if b then unchanged (with_flag s p i f) FlagWasSet
+    else answered FlagWasClear (after (flagged s p i f) (raised (with_flag s p i f) p i)))
 placed-by s p i f b on is =
-    ap (λ e. if not e then refused s SynicOff else if is_flag_set (space_of s) p i f then unchanged (with_flag s p i f) FlagWasSet
+    ap (λ e. if not e then refused s SynicOff else if is_flag_set (space_of s) p i f
+    then unchanged (with_flag s p i f) FlagWasSet
     else answered FlagWasClear (after (flagged s p i f) (raised (with_flag s p i f) p i))) on
-    ∙ ap (λ e. if e then unchanged (with_flag s p i f) FlagWasSet else answered FlagWasClear (after (flagged s p i f) (raised (with_flag s p i f) p i))) is
+    ∙ ap (λ e. if e then unchanged (with_flag s p i f) FlagWasSet
+    else answered FlagWasClear (after (flagged s p i f) (raised (with_flag s p i f) p i))) is
 
 -- a signal of a flag that is set changes nothing
-pub set-again : (s : State) (number flag place : ℕ) (port : Port) (notices : List Notice) → port_at (ports_of s) number ≡ Some port → signalled_flag s flag port ≡ Some place → is_flag_set (space_of s) port.vp port.sint place ≡ true
+pub set-again : (s : State) (number flag place : ℕ) (port : Port) (notices : List Notice)
+    → port_at (ports_of s) number ≡ Some port → signalled_flag s flag port ≡ Some place
+    → is_flag_set (space_of s) port.vp port.sint place ≡ true
     → IsStep s (Signal number flag) s FlagWasSet notices notices
 unfolding step
 set-again s number flag place port notices there is set = record {
   emitted = [];
   notices = sym (append-nil notices);
-  step = sym (at.0 ∙ placed-by s port.vp port.sint place true at.1 set ∙ ap (λ t. unchanged t FlagWasSet) (same-flag s port.vp port.sint place set));
+  step = sym (at.0 ∙ placed-by s port.vp port.sint place true at.1 set
+      ∙ ap (λ t. unchanged t FlagWasSet) (same-flag s port.vp port.sint place set));
   bound = omega arith;
 }
   where
@@ -90,18 +102,25 @@ set-again s number flag place port notices there is set = record {
     at = placed-at s number flag place port there is
 
 -- the reply where it is not set
-pub set-anew : (s now : State) (number flag place : ℕ) (port : Port) (reply : Reply) (notices : List Notice) → port_at (ports_of s) number ≡ Some port → signalled_flag s flag port ≡ Some place
-    → is_flag_set (space_of s) port.vp port.sint place ≡ false → (now, reply, notices) ≡ step s (Signal number flag) → reply ≡ FlagWasClear
+pub set-anew : (s now : State) (number flag place : ℕ) (port : Port) (reply : Reply) (notices : List Notice)
+    → port_at (ports_of s) number ≡ Some port → signalled_flag s flag port ≡ Some place
+    → is_flag_set (space_of s) port.vp port.sint place ≡ false → (now, reply, notices) ≡ step s (Signal number flag)
+    → reply ≡ FlagWasClear
 unfolding step
 set-anew s now number flag place port reply notices there is clear step-is =
     let at = placed-at s number flag place port there is in
     ap (λ (o : Outcome). o.1) (step-is ∙ at.0 ∙ placed-by s port.vp port.sint place false at.1 clear)
 
 -- a flag in the word that has it
-pub flag-seen : (s : State) (p i f found bit : ℕ) → word_of s (2 * p + 1) (32 * i + f / 64) ≡ found → bit ≡ f % 64 → HasShape s → HasRanges s → p < processors s → i < 16 → f < 2048 → is_flag_set (space_of s) p i f ≡ (bit_at found bit == 1)
+pub flag-seen : (s : State) (p i f found bit : ℕ) → word_of s (2 * p + 1) (32 * i + f / 64) ≡ found → bit ≡ f % 64
+    → HasShape s → HasRanges s → p < processors s → i < 16 → f < 2048
+    → is_flag_set (space_of s) p i f ≡ (bit_at found bit == 1)
 flag-seen s p i f found bit is at shape ranges on under low =
     let w : ℕ = 32 * i + f / 64 in
     let place : flag_place i f ≡ 8 * w + f / 8 % 8 = omega arith in
     let low-bit : 8 * (f / 8 % 8) + f % 8 ≡ bit = omega (arith, at) in
     ap (λ n. bit_at (get_or (flags_of s p) n 0) (f % 8) == 1) place
-    ∙ ap (λ n. n == 1) (sym (bit-of (flags_of s p) w (f / 8 % 8) (f % 8) (omega arith) (omega arith) (flag-bytes s p i f shape ranges on under low)) ∙ ap (bit_at (word_of s (2 * p + 1) w)) low-bit ∙ ap (λ n. bit_at n bit) is)
+    ∙ ap (λ n. n == 1)
+    (sym (bit-of (flags_of s p) w (f / 8 % 8) (f % 8) (omega arith) (omega arith)
+    (flag-bytes s p i f shape ranges on under low)) ∙ ap (bit_at (word_of s (2 * p + 1) w)) low-bit
+    ∙ ap (λ n. bit_at n bit) is)

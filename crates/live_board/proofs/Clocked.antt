@@ -44,7 +44,8 @@ early-queues s moment none = by (nat_lt moment s.moment) (moment == s.moment) re
         let ne : moment ≢ s.moment = grind (arith, nat_tests) in
         ap (λ (o : Outcome). o.0.queues) (ticked_before s moment le ne none)
 
-pub early-own : (s now : State) (moment : ℕ) (reply : Reply) (notices : List Notice) → is_any_due s moment ≡ false → (now, reply, notices) ≡ step s (Tick moment) → now.own ≡ s.own
+pub early-own : (s now : State) (moment : ℕ) (reply : Reply) (notices : List Notice) → is_any_due s moment ≡ false
+    → (now, reply, notices) ≡ step s (Tick moment) → now.own ≡ s.own
 unfolding step
 early-own s now moment reply notices none is = ap (λ (o : Outcome). o.0.own) is ∙ own-early s moment none
 
@@ -52,12 +53,17 @@ looked-none : (m k : ℕ) (s : State) (pages : List (List Access)) → looked_fr
 looked-none zero k s pages = refl
 looked-none (suc m) k s pages = looked-none m (suc k) s pages
 
-marked-none : (m k : ℕ) (s : State) (pages : List (List Access)) → marked_from s pages (λ _. []) (λ _. []) (λ _. []) k m ≡ []
+marked-none : (m k : ℕ) (s : State) (pages : List (List Access))
+    → marked_from s pages (λ _. []) (λ _. []) (λ _. []) k m ≡ []
 marked-none zero k s pages = refl
-marked-none (suc m) k s pages = append-nil (marked_from s pages (λ _. []) (λ _. []) (λ _. []) (suc k) m) ∙ marked-none m (suc k) s pages
+marked-none (suc m) k s pages =
+    append-nil (marked_from s pages (λ _. []) (λ _. []) (λ _. []) (suc k) m) ∙ marked-none m (suc k) s pages
 
-pub ticked-early : (old now : BoardModel) (pages : List (List Access)) (moment : ℕ) (reply : Reply) (owed : List Bool) (notices late : List Notice) → is_any_due old.state moment ≡ false → (now.state, reply, notices) ≡ step old.state (Tick moment) → late ≡ []
-    → ((p : ℕ) → get_or owed p false ≡ false) → IsTicked (live old pages) moment (live now pages) reply owed notices late
+pub ticked-early : (old now : BoardModel) (pages : List (List Access)) (moment : ℕ) (reply : Reply) (owed : List Bool)
+    (notices late : List Notice) → is_any_due old.state moment ≡ false
+    → (now.state, reply, notices) ≡ step old.state (Tick moment) → late ≡ []
+    → ((p : ℕ) → get_or owed p false ≡ false)
+    → IsTicked (live old pages) moment (live now pages) reply owed notices late
 unfolding run_of
 ticked-early old now pages moment reply owed notices late none is empty owes = record {
   looks = λ _. [];
@@ -82,8 +88,11 @@ ticked-early old now pages moment reply owed notices late none is empty owes = r
     marks : marked_from s pages (λ _. []) (λ _. []) (λ _. []) 0 (processors s) ≡ []
     marks = marked-none (processors s) 0 s pages
 
-pub ticked-due : (old now : BoardModel) (pages pages-now : List (List Access)) (moment m : ℕ) (reply : Reply) (owed : List Bool) (before after late : List Notice) → is_any_due old.state moment ≡ true → m ≡ processors old.state → before ≡ []
-    → IsTickFrom old.state 0 m pages (Tick moment) now.state pages-now reply owed before after late → IsTicked (live old pages) moment (live now pages-now) reply owed after late
+pub ticked-due : (old now : BoardModel) (pages pages-now : List (List Access)) (moment m : ℕ) (reply : Reply)
+    (owed : List Bool) (before after late : List Notice) → is_any_due old.state moment ≡ true
+    → m ≡ processors old.state → before ≡ []
+    → IsTickFrom old.state 0 m pages (Tick moment) now.state pages-now reply owed before after late
+    → IsTicked (live old pages) moment (live now pages-now) reply owed after late
 ticked-due old now pages pages-now moment m reply owed before after late due count empty h = record {
   looks = t.looks;
   stores = t.stores;
@@ -92,16 +101,24 @@ ticked-due old now pages pages-now moment m reply owed before after late due cou
   idle = λ none. absurd (let e : true ≡ false = sym due ∙ none in cc);
   logs = λ p less. t.logs p (omega arith) (omega (arith, less));
   flags = t.flags;
-  run = t.run ∙ ap (λ (ns : List Notice). (now.state, all_done (looked_from old.state pages t.looks 0 (processors old.state)) ++ reply ∷ all_done (marked_from old.state pages t.looks t.stores t.marks 0 (processors old.state)), ns ++ late))
+  run = t.run ∙ ap (λ (ns : List Notice). (
+    now.state,
+    all_done (looked_from old.state pages t.looks 0 (processors old.state))
+        ++ reply ∷ all_done (marked_from old.state pages t.looks t.stores t.marks 0 (processors old.state)),
+    ns ++ late,
+  ))
       (sym (t.notices ∙ ap (λ ns. ns ++ t.emitted) empty));
   owes = λ p less. t.owes p (omega arith) (omega (arith, less));
   direct = λ p less. t.direct p (omega arith) (omega (arith, less));
 }
   where
-    t : IsTickFrom old.state 0 (processors old.state) pages (Tick moment) now.state pages-now reply owed before after late
-    t = subst (λ n. IsTickFrom old.state 0 n pages (Tick moment) now.state pages-now reply owed before after late) count h
+    t : IsTickFrom old.state 0 (processors old.state) pages
+        (Tick moment) now.state pages-now reply owed before after late
+    t = subst (λ n. IsTickFrom old.state 0 n pages (Tick moment) now.state pages-now reply owed before after late)
+        count h
 
-pub ticked-shadows : (s now : State) (pages pages-now : List (List Access)) (m : ℕ) (event : Event) (reply : Reply) (owed : List Bool) (before after late : List Notice) → m ≡ processors s → HasShape s → Shadows s pages
+pub ticked-shadows : (s now : State) (pages pages-now : List (List Access)) (m : ℕ) (event : Event) (reply : Reply)
+    (owed : List Bool) (before after late : List Notice) → m ≡ processors s → HasShape s → Shadows s pages
     → IsTickFrom s 0 m pages event now pages-now reply owed before after late → Shadows now pages-now
 ticked-shadows s now pages pages-now m event reply owed before after late count shape h t = record {
   count = t.size ∙ h.count ∙ sym t.count;
@@ -109,18 +126,24 @@ ticked-shadows s now pages pages-now m event reply owed before after late count 
   words = λ j w low small. by j w (omega (arith, low, t.count)) small (cases_eq (j % 2) 0);
 }
   where
-    by : (j w : ℕ) → j < length s.own → w < 512 → (j % 2 ≡ 0) ⊎ (j % 2 ≢ 0) → known (get_or pages-now j []) w ≡ word_of now j w
+    by : (j w : ℕ) → j < length s.own → w < 512 → (j % 2 ≡ 0) ⊎ (j % 2 ≢ 0)
+        → known (get_or pages-now j []) w ≡ word_of now j w
     by j w low small (inl even) =
         let place : 2 * (j / 2) ≡ j = omega (arith, even) in
-        subst (λ i. known (get_or pages-now i []) w ≡ word_of now i w) place (t.shadow (j / 2) (omega arith) (omega (arith, low, shape.overlays, count)) w small)
+        subst (λ i. known (get_or pages-now i []) w ≡ word_of now i w) place
+        (t.shadow (j / 2) (omega arith) (omega (arith, low, shape.overlays, count)) w small)
     by j w low small (inr odd) =
         let place : 2 * (j / 2) + 1 ≡ j = omega (arith, odd) in
         subst (λ i. known (get_or pages-now i []) w ≡ word_of now i w) place
-        (ap (λ l. known l w) (t.flags (j / 2)) ∙ h.words (2 * (j / 2) + 1) w (omega (arith, place, low)) small ∙ sym (t.odd (j / 2) w small))
+        (ap (λ l. known l w) (t.flags (j / 2)) ∙ h.words (2 * (j / 2) + 1) w (omega (arith, place, low)) small
+        ∙ sym (t.odd (j / 2) w small))
 
 -- the same, in terms of the whole board
-pub ticked-at : (old other now : LiveModel) (moment : ℕ) (reply : Reply) (owed : List Bool) (notices late : List Notice) → old ≡ other → IsTicked old moment now reply owed notices late → IsTicked other moment now reply owed notices late
-ticked-at old other now moment reply owed notices late is h = subst (λ m. IsTicked m moment now reply owed notices late) is h
+pub ticked-at : (old other now : LiveModel) (moment : ℕ) (reply : Reply) (owed : List Bool)
+    (notices late : List Notice) → old ≡ other → IsTicked old moment now reply owed notices late
+    → IsTicked other moment now reply owed notices late
+ticked-at old other now moment reply owed notices late is h =
+    subst (λ m. IsTicked m moment now reply owed notices late) is h
 
 -- no processor is owed an EOM
 pub none-owed : (m p : ℕ) → get_or (replicate m false) p false ≡ false

@@ -40,13 +40,16 @@ own-signalled : (s : State) (t : ℕ × ℕ) (v : ℕ) (o : Option ℕ) → (sig
 own-signalled s t v None = refl
 own-signalled s t v (Some d) = own-requested s t.0 v
 
-pub own-attempted : (s : State) (t : ℕ × ℕ) → is_direct (timer_in (bank_of s) t).config ≡ true → (attempted s t).0.own ≡ s.own
+pub own-attempted : (s : State) (t : ℕ × ℕ) → is_direct (timer_in (bank_of s) t).config ≡ true
+    → (attempted s t).0.own ≡ s.own
 unfolding attempted
 own-attempted s t direct =
     let config : ℕ = (timer_in (bank_of s) t).config in
-    let mode : mode_at s t ≡ Direct (vector_of config) = ap (λ b. if b then Direct (vector_of config) else Posted (sint_of config)) direct in
+    let mode : mode_at s t ≡ Direct (vector_of config) =
+    ap (λ b. if b then Direct (vector_of config) else Posted (sint_of config)) direct in
     either (λ (e : Effect). e.0.own ≡ s.own) (is_ready s t) _ _
-    (λ _. subst (λ (m : Mode). (fired s t m).0.own ≡ s.own) (sym mode) (own-signalled (expired_state s t) t (vector_of config) (expiry_at s t).signal)) (λ _. refl)
+    (λ _. subst (λ (m : Mode). (fired s t m).0.own ≡ s.own) (sym mode)
+    (own-signalled (expired_state s t) t (vector_of config) (expiry_at s t).signal)) (λ _. refl)
 
 -- what a write stores has the same mode
 pub direct-disabled : (c : ℕ) → is_direct (disabled c) ≡ is_direct c
@@ -56,7 +59,9 @@ direct-enabled : (c : ℕ) → is_direct (enabled c) ≡ is_direct c
 direct-enabled c = ap (λ q. q % 2 == 1) (let e : (c - c % 2 + 1) / 2 ^ 12 ≡ c / 2 ^ 12 = omega arith in e)
 
 direct-normalized : (c : ℕ) → is_direct (normalized c) ≡ is_direct c
-direct-normalized c = elim (has_no_target c) as (λ b. is_direct (if b then disabled c else c) ≡ is_direct c) [ true ↦ direct-disabled c | false ↦ refl ]
+direct-normalized c =
+    elim (has_no_target c) as
+    (λ b. is_direct (if b then disabled c else c) ≡ is_direct c) [ true ↦ direct-disabled c | false ↦ refl ]
 
 direct-count : (c count : ℕ) → is_direct (written_count c count) ≡ is_direct c
 direct-count c count = by (count == 0) (enables_itself c)
@@ -66,31 +71,49 @@ direct-count c count = by (count == 0) (enables_itself c)
     by false true = direct-normalized (enabled c) ∙ direct-enabled c
     by false false = refl
 
-own-written : (s : State) (t : ℕ × ℕ) (x : Timer) → number_of t < length s.timers → is_direct x.config ≡ true → (written_timer s (with_timer (bank_of s) t x) t).0.own ≡ s.own
-own-written s t x low direct = own-attempted (with_bank s (with_timer (bank_of s) t x)) t (ap (λ (y : Timer). is_direct y.config) (get_or-set_same s.timers (number_of t) x idle_timer low) ∙ direct)
+own-written : (s : State) (t : ℕ × ℕ) (x : Timer) → number_of t < length s.timers → is_direct x.config ≡ true
+    → (written_timer s (with_timer (bank_of s) t x) t).0.own ≡ s.own
+own-written s t x low direct =
+    own-attempted (with_bank s (with_timer (bank_of s) t x)) t
+    (ap (λ (y : Timer). is_direct y.config) (get_or-set_same s.timers (number_of t) x idle_timer low) ∙ direct)
 
-own-register : (s : State) (p number value : ℕ) (o : Option Register) → register_of number ≡ o → is_direct_by s p value o ≡ true → p < processors s → processors s ≤ 64 → HasShape s → (option_map_or (λ r. (written_register s p r value).0.own) o s.own) ≡ s.own
+own-register : (s : State) (p number value : ℕ) (o : Option Register) → register_of number ≡ o
+    → is_direct_by s p value o ≡ true → p < processors s → processors s ≤ 64 → HasShape s
+    → (option_map_or (λ r. (written_register s p r value).0.own) o s.own) ≡ s.own
 own-register s p number value (Some (register.TimerConfig n)) is direct on few shape =
     let exists = (have_their_numbers number (register.TimerConfig n)).0 is in
-    own-written s (p, n) (after_config (timer_in (bank_of s) (p, n)) value s.moment) (omega (arith, exists, on, few, shape.timers)) (direct-normalized (bit_and value 0xf1fff) ∙ direct)
+    own-written s (p, n) (after_config (timer_in (bank_of s) (p, n)) value s.moment)
+    (omega (arith, exists, on, few, shape.timers)) (direct-normalized (bit_and value 0xf1fff) ∙ direct)
 own-register s p number value (Some (register.TimerCount n)) is direct on few shape =
     let exists = (have_their_numbers number (register.TimerCount n)).0 is in
-    own-written s (p, n) (after_count (timer_in (bank_of s) (p, n)) value s.moment) (omega (arith, exists, on, few, shape.timers)) (direct-count (timer_in (bank_of s) (p, n)).config value ∙ direct)
+    own-written s (p, n) (after_count (timer_in (bank_of s) (p, n)) value s.moment)
+    (omega (arith, exists, on, few, shape.timers))
+    (direct-count (timer_in (bank_of s) (p, n)).config value ∙ direct)
 own-register s p number value o is direct on few shape = absurd (cc)
 
-pub own-direct : (s now : State) (p : ℕ) (event : Event) (reply : Reply) (notices : List Notice) → IsTimerOf s p event → is_direct_write s event ≡ true → (now, reply, notices) ≡ step s event → processors s ≤ 64 → HasShape s → now.own ≡ s.own
+pub own-direct : (s now : State) (p : ℕ) (event : Event) (reply : Reply) (notices : List Notice) → IsTimerOf s p event
+    → is_direct_write s event ≡ true → (now, reply, notices) ≡ step s event → processors s ≤ 64 → HasShape s
+    → now.own ≡ s.own
 unfolding step
-own-direct s now p (Write q number value) reply notices (on, same, timer) direct is few shape = ap (λ (o : Outcome). o.0.own) is ∙ state ∙ own-register s p number value (register_of number) refl (sym (ap (λ k. is_direct_by s k value (register_of number)) same) ∙ direct) on few shape
+own-direct s now p (Write q number value) reply notices (on, same, timer) direct is few shape =
+    ap (λ (o : Outcome). o.0.own) is ∙ state
+    ∙ own-register s p number value (register_of number) refl
+    (sym (ap (λ k. is_direct_by s k value (register_of number)) same) ∙ direct) on few shape
   where
     there : nat_lt p (processors s) ≡ true
     there = grind (arith, nat_tests)
 
-    state : (step s (Write q number value)).0.own ≡ option_map_or (λ r. (written_register s p r value).0.own) (register_of number) s.own
-    state = ap (λ k. (step s (Write k number value)).0.own) same ∙ rw there (elim (register_of number) as (λ o. (option_map_or (λ r. written_register s p r value) o (unchanged s GeneralProtection)).0.own ≡ option_map_or (λ r. (written_register s p r value).0.own) o s.own) [ None ↦ refl | Some r ↦ refl ])
+    state : (step s (Write q number value)).0.own
+        ≡ option_map_or (λ r. (written_register s p r value).0.own) (register_of number) s.own
+    state = ap (λ k. (step s (Write k number value)).0.own) same
+        ∙ rw there (elim (register_of number) as
+        (λ o. (option_map_or (λ r. written_register s p r value) o (unchanged s GeneralProtection)).0.own
+        ≡ option_map_or (λ r. (written_register s p r value).0.own) o s.own) [ None ↦ refl | Some r ↦ refl ])
 own-direct s now p event reply notices other direct is few shape = absurd other
 
 -- whether a timer is in direct mode depends on neither own pages nor tickets of slots
-pub rest-direct : (s now : State) (event : Event) → now ≡ record s { own = now.own; slots = now.slots } → is_direct_write s event ≡ true → is_direct_write now event ≡ true
+pub rest-direct : (s now : State) (event : Event) → now ≡ record s { own = now.own; slots = now.slots }
+    → is_direct_write s event ≡ true → is_direct_write now event ≡ true
 rest-direct s now (Write q number value) rest direct = by (register_of number) direct
   where
     by : (o : Option Register) → is_direct_by s q value o ≡ true → is_direct_by now q value o ≡ true
@@ -100,7 +123,9 @@ rest-direct s now (Write q number value) rest direct = by (register_of number) d
 rest-direct s now event rest direct = absurd (cc)
 
 -- a write of such a timer after looks
-pub part-direct : (s mid now : State) (p : ℕ) (log log-now : List Access) (event : Event) (reply : Reply) (first after : List Notice) → IsViewed s p log mid log-now first → IsStep mid event now reply first after → now.own ≡ mid.own
+pub part-direct : (s mid now : State) (p : ℕ) (log log-now : List Access) (event : Event) (reply : Reply)
+    (first after : List Notice) → IsViewed s p log mid log-now first → IsStep mid event now reply first after
+    → now.own ≡ mid.own
     → IsTimedPart s p log event now log-now reply false after
 unfolding run_of
 part-direct s mid now p log log-now event reply first after v one own = record {
@@ -109,7 +134,9 @@ part-direct s mid now p log log-now event reply first after v one own = record {
   marks = [];
   are = record { shown = v.shown; hidden = λ no. (v.hidden no, refl); stored = tt; marked = tt; careful = λ _. tt };
   page = v.watched.page;
-  run = run-around s mid now now earlier [] event reply first one.emitted [] v.watched.run one.step refl ∙ ap (λ (ns : List Notice). (now, all_done earlier ++ reply ∷ [], ns)) (ap (λ ns. first ++ ns) (append-nil one.emitted) ∙ sym one.notices);
+  run = run-around s mid now now earlier [] event reply first one.emitted [] v.watched.run one.step refl
+      ∙ ap (λ (ns : List Notice). (now, all_done earlier ++ reply ∷ [], ns))
+      (ap (λ ns. first ++ ns) (append-nil one.emitted) ∙ sym one.notices);
   owes = refl;
   direct = λ _. (refl, refl);
   shadow = λ x low. v.shadow x low ∙ ap (λ l. word_at (get_or l (2 * p) []) (8 * x)) (sym own);

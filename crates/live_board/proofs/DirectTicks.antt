@@ -43,13 +43,20 @@ timers-requested : (s : State) (p v : ℕ) → (requested s p v).0.timers ≡ s.
 timers-requested s p v = either (λ (e : Effect). e.0.timers ≡ s.timers) _ _ _ (λ _. refl) (λ _. refl)
 
 timers-raised : (s : State) (p i : ℕ) → (raised s p i).0.timers ≡ s.timers
-timers-raised s p i = elim (raised_by (regs_of s p) i) as (λ o. (option_map_or (requested s p) o (nothing s)).0.timers ≡ s.timers) [ None ↦ refl | Some v ↦ timers-requested s p v ]
+timers-raised s p i =
+    elim (raised_by (regs_of s p) i) as
+    (λ o. (option_map_or (requested s p) o (nothing s)).0.timers ≡ s.timers) [
+      | None ↦ refl
+      | Some v ↦
+          timers-requested s p v
+    ]
 
 timers-tried : (s : State) (p i : ℕ) → (tried s p i).0.timers ≡ s.timers
 unfolding tried
 timers-tried s p i =
     either (λ (e : Effect). e.0.timers ≡ s.timers) (is_waiting s p i) _ _
-    (λ _. either (λ (e : Effect). e.0.timers ≡ s.timers) (is_slot_empty s p i) _ _ (λ _. head (queue_of s.queues p i)) (λ _. refl))
+    (λ _. either (λ (e : Effect). e.0.timers ≡ s.timers) (is_slot_empty s p i) _ _ (λ _. head (queue_of s.queues p i))
+    (λ _. refl))
     (λ _. refl)
   where
     head : (q : List Message) → (after (placed_head s p i q) (raised (placed_head s p i q).0 p i)).0.timers ≡ s.timers
@@ -73,7 +80,13 @@ unfolding modes in_direct_mode
 mode-here s t = get_or-map in_direct_mode s.timers (number_of t) idle_timer
 
 mode-expired : (x : Timer) (moment : ℕ) → is_direct (after_expiry x moment).0.config ≡ is_direct x.config
-mode-expired x moment = elim (is_periodic x.config) as (λ b. is_direct (if b then x.config else disabled x.config) ≡ is_direct x.config) [ true ↦ refl | false ↦ direct-disabled x.config ]
+mode-expired x moment =
+    elim (is_periodic x.config) as
+    (λ b. is_direct (if b then x.config else disabled x.config) ≡ is_direct x.config) [
+      | true ↦ refl
+      | false ↦
+          direct-disabled x.config
+    ]
 
 modes-attempted : (s : State) (t : ℕ × ℕ) → modes (attempted s t).0 ≡ modes s
 unfolding attempted modes in_direct_mode
@@ -81,20 +94,23 @@ modes-attempted s t =
     let x : Timer = timer_in (bank_of s) t in
     either (λ (e : Effect). modes e.0 ≡ modes s) (is_ready s t) _ _
     (λ _. ap (map in_direct_mode) (timers-signalled (expired_state s t) t (mode_at s t) (expiry_at s t).signal)
-    ∙ map-set_same in_direct_mode s.timers (number_of t) (after_expiry x s.moment).0 idle_timer (mode-expired x s.moment))
+    ∙ map-set_same in_direct_mode s.timers (number_of t) (after_expiry x s.moment).0 idle_timer
+    (mode-expired x s.moment))
     (λ _. refl)
 
 -- if a timer is of the processor, it is in direct mode
 abbrev DirectIf : List Bool → ℕ → ℕ × ℕ → Type 0
 DirectIf ms p t = t.0 ≡ p → get_or ms (number_of t) false ≡ true
 
-own-all : (n few : ℕ) (s : State) (p : ℕ) (ts : List (ℕ × ℕ)) → IsIntact n s → Each (DirectIf (modes s) p) ts → get_or (attempted_until few s ts).0.own (2 * p) [] ≡ get_or s.own (2 * p) []
+own-all : (n few : ℕ) (s : State) (p : ℕ) (ts : List (ℕ × ℕ)) → IsIntact n s → Each (DirectIf (modes s) p) ts
+    → get_or (attempted_until few s ts).0.own (2 * p) [] ≡ get_or s.own (2 * p) []
 unfolding attempted_until
 own-all n zero s p ts h each = refl
 own-all n (suc few) s p [] h each = refl
 own-all n (suc few) s p (t ∷ ts) h each =
     let now : State = (attempted s t).0 in
-    own-all n (if is_ready s t then few else suc few) now p ts (keeps-attempted n s t h).kept (subst (λ ms. Each (DirectIf ms p) ts) (sym (modes-attempted s t)) each.1) ∙ one (cases_eq t.0 p)
+    own-all n (if is_ready s t then few else suc few) now p ts (keeps-attempted n s t h).kept
+    (subst (λ ms. Each (DirectIf ms p) ts) (sym (modes-attempted s t)) each.1) ∙ one (cases_eq t.0 p)
   where
     one : (t.0 ≡ p) ⊎ (t.0 ≢ p) → get_or (attempted s t).0.own (2 * p) [] ≡ get_or s.own (2 * p) []
     one (inl same) = ap (λ l. get_or l (2 * p) []) (own-attempted s t (sym (mode-here s t) ∙ each.0 same))
@@ -104,14 +120,16 @@ each-from : (P : ℕ × ℕ → Type 0) (ts : List (ℕ × ℕ)) → ((k : ℕ) 
 each-from P [] h = tt
 each-from P (t ∷ ts) h = (h 0 (omega arith), each-from P ts (λ k low. h (suc k) (omega (arith, low))))
 
-own-ticked : (n : ℕ) (s : State) (p moment : ℕ) → IsIntact n s → AreDueDirect s p moment → get_or (ticked s moment).0.own (2 * p) [] ≡ get_or s.own (2 * p) []
+own-ticked : (n : ℕ) (s : State) (p moment : ℕ) → IsIntact n s → AreDueDirect s p moment
+    → get_or (ticked s moment).0.own (2 * p) [] ≡ get_or s.own (2 * p) []
 unfolding modes
 own-ticked n s p moment h direct =
     either (λ (o : Outcome). get_or o.0.own (2 * p) [] ≡ get_or s.own (2 * p) []) (nat_lt moment s.moment) _ _
     (λ _. refl)
     (λ _. either (λ (o : Outcome). get_or o.0.own (2 * p) [] ≡ get_or s.own (2 * p) []) (moment == s.moment) _ _
     (λ _. refl)
-    (λ _. own-all n most_expiries (at_moment s moment) p ts (kept-moment n s moment h) (each-from (DirectIf (modes s) p) ts listed)))
+    (λ _. own-all n most_expiries (at_moment s moment) p ts (kept-moment n s moment h)
+    (each-from (DirectIf (modes s) p) ts listed)))
   where
     ts : List (ℕ × ℕ)
     ts = due_list (dues (bank_of s)) moment
@@ -119,15 +137,22 @@ own-ticked n s p moment h direct =
     listed : (k : ℕ) → k < length ts → DirectIf (modes s) p (get_or ts k (0, 0))
     listed k low same =
         let t : ℕ × ℕ = get_or ts k (0, 0) in
-        let due : is_due (timer_in (bank_of s) (p, t.1)) moment ≡ true = ap (λ q. is_due (timer_in (bank_of s) (q, t.1)) moment) (sym same) ∙ due-reached (bank_of s) t moment (listed-due (bank_of s) moment k low) in
-        mode-here s t ∙ ap (λ q. is_direct (timer_in (bank_of s) (q, t.1)).config) same ∙ direct t.1 (listed-index (dues (bank_of s)) moment k low) due
+        let due : is_due (timer_in (bank_of s) (p, t.1)) moment ≡ true =
+        ap (λ q. is_due (timer_in (bank_of s) (q, t.1)) moment) (sym same)
+        ∙ due-reached (bank_of s) t moment (listed-due (bank_of s) moment k low) in
+        mode-here s t ∙ ap (λ q. is_direct (timer_in (bank_of s) (q, t.1)).config) same
+        ∙ direct t.1 (listed-index (dues (bank_of s)) moment k low) due
 
-pub own-tick : (s now : State) (p : ℕ) (event : Event) (reply : Reply) (notices : List Notice) → AreDirectAt s p event → IsSound s → (now, reply, notices) ≡ step s event → get_or now.own (2 * p) [] ≡ get_or s.own (2 * p) []
+pub own-tick : (s now : State) (p : ℕ) (event : Event) (reply : Reply) (notices : List Notice) → AreDirectAt s p event
+    → IsSound s → (now, reply, notices) ≡ step s event → get_or now.own (2 * p) [] ≡ get_or s.own (2 * p) []
 unfolding step
-own-tick s now p (Tick moment) reply notices direct sound is = ap (λ (o : Outcome). get_or o.0.own (2 * p) []) is ∙ own-ticked (processors s) s p moment (kept_from_sound s sound) direct
+own-tick s now p (Tick moment) reply notices direct sound is =
+    ap (λ (o : Outcome). get_or o.0.own (2 * p) []) is
+    ∙ own-ticked (processors s) s p moment (kept_from_sound s sound) direct
 own-tick s now p event reply notices other sound is = absurd other
 
 -- whether timers are in direct mode depends on neither own pages nor tickets of slots
-pub rest-due : (s now : State) (p : ℕ) (event : Event) → now ≡ record s { own = now.own; slots = now.slots } → AreDirectAt s p event → AreDirectAt now p event
+pub rest-due : (s now : State) (p : ℕ) (event : Event) → now ≡ record s { own = now.own; slots = now.slots }
+    → AreDirectAt s p event → AreDirectAt now p event
 rest-due s now p (Tick moment) rest direct = subst (λ (t : State). AreDueDirect t p moment) (sym rest) direct
 rest-due s now p event rest other = absurd other

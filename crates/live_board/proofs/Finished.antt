@@ -9,7 +9,8 @@ use Rattle.live_board.specs.Live.{IsShown, explained_after, all_done}
 use Rattle.live_board.specs.inside.Parts.{IsShadow, IsPublished, IsMarking, IsFinished}
 
 -- nothing is left to do
-pub finished-none : (s : State) (p : ℕ) (log : List Access) (late : List Notice) → IsShadow s (2 * p) log → (one : IsFinished s p log s log false late late) × (one.stores ≡ []) × (one.marks ≡ [])
+pub finished-none : (s : State) (p : ℕ) (log : List Access) (late : List Notice) → IsShadow s (2 * p) log
+    → (one : IsFinished s p log s log false late late) × (one.stores ≡ []) × (one.marks ≡ [])
 unfolding run_of
 finished-none s p log late shadow = (
   record {
@@ -35,7 +36,9 @@ finished-none s p log late shadow = (
   refl,
 )
 
-pub finished-hidden : (s : State) (p : ℕ) (words : List ℕ) (log log-now : List Access) (before : List Notice) → (IsShown s p Sim → ⊥) → IsPublished s p false words 16 log log-now → IsFinished s p log s log-now false before before
+pub finished-hidden : (s : State) (p : ℕ) (words : List ℕ) (log log-now : List Access) (before : List Notice)
+    → (IsShown s p Sim → ⊥) → IsPublished s p false words 16 log log-now
+    → IsFinished s p log s log-now false before before
 unfolding run_of
 finished-hidden s p words log log-now before hidden published = record {
   emitted = [];
@@ -57,7 +60,9 @@ finished-hidden s p words log log-now before hidden published = record {
   owes = refl;
 }
 
-pub finished-shown : (s now : State) (p : ℕ) (words : List ℕ) (log between log-now : List Access) (owed : Bool) (before after : List Notice) → IsShown s p Sim → IsPublished s p true words 16 log between → IsMarking s p words between now log-now owed before after 16
+pub finished-shown : (s now : State) (p : ℕ) (words : List ℕ) (log between log-now : List Access) (owed : Bool)
+    (before after : List Notice) → IsShown s p Sim → IsPublished s p true words 16 log between
+    → IsMarking s p words between now log-now owed before after 16
     → IsFinished s p log now log-now owed before after
 finished-shown s now p words log between log-now owed before after shown published m = record {
   emitted = m.emitted;
@@ -70,7 +75,8 @@ finished-shown s now p words log between log-now owed before after shown publish
   marked = m.marks;
   careful = λ _. published.careful refl;
   hidden = λ no. absurd (no shown);
-  run = ap (λ l. run_of s (explained_after s p m.news l)) (sym published.page) ∙ m.run ∙ ap (λ l. (now, all_done (explained_after s p m.news l), m.emitted)) published.page;
+  run = ap (λ l. run_of s (explained_after s p m.news l)) (sym published.page) ∙ m.run
+      ∙ ap (λ l. (now, all_done (explained_after s p m.news l), m.emitted)) published.page;
   rest = m.rest;
   count = m.count;
   others = m.others;

@@ -28,27 +28,42 @@ abbrev pub live : BoardModel → List (List Access) → LiveModel
 live board pages = record { board = board; pages = pages }
 
 -- a call on one page keeps the shadow
-pub page-shadows : (s now : State) (pages : List (List Access)) (o : ℕ) (log-now : List Access) → o < length s.own → Shadows s pages → length now.own ≡ length s.own → LeavesOthers s o now → IsShadow now o log-now → Shadows now (set pages o log-now)
+pub page-shadows : (s now : State) (pages : List (List Access)) (o : ℕ) (log-now : List Access) → o < length s.own
+    → Shadows s pages → length now.own ≡ length s.own → LeavesOthers s o now → IsShadow now o log-now
+    → Shadows now (set pages o log-now)
 page-shadows s now pages o log-now inside h count others shadow = record {
   count = length-set pages o log-now ∙ h.count ∙ sym count;
   few = omega (arith, length-set pages o log-now, h.few);
   words = λ j w low small. by j w (omega (arith, low, count)) small (cases_eq j o);
 }
   where
-    by : (j w : ℕ) → j < length s.own → w < 512 → (j ≡ o) ⊎ (j ≢ o) → known (get_or (set pages o log-now) j []) w ≡ word_of now j w
+    by : (j w : ℕ) → j < length s.own → w < 512 → (j ≡ o) ⊎ (j ≢ o)
+        → known (get_or (set pages o log-now) j []) w ≡ word_of now j w
     by j w low small (inl e) =
-        ap (λ n. known (get_or (set pages o log-now) n []) w) e ∙ ap (λ l. known l w) (get_or-set_same pages o log-now [] (omega (arith, h.count, inside))) ∙ shadow w small ∙ ap (λ n. word_of now n w) (sym e)
-    by j w low small (inr ne) = ap (λ l. known l w) (get_or-set_other pages o j log-now [] ne) ∙ h.words j w low small ∙ sym (others j w small ne)
+        ap (λ n. known (get_or (set pages o log-now) n []) w) e
+        ∙ ap (λ l. known l w) (get_or-set_same pages o log-now [] (omega (arith, h.count, inside)))
+        ∙ shadow w small ∙ ap (λ n. word_of now n w) (sym e)
+    by j w low small (inr ne) =
+        ap (λ l. known l w) (get_or-set_other pages o j log-now [] ne) ∙ h.words j w low small
+        ∙ sym (others j w small ne)
 
-pub part-shadows : (s now : State) (pages : List (List Access)) (p : ℕ) (k : Kind) (event : Event) (log-now : List Access) (reply : Reply) (notices : List Notice) → overlay_of p k < length s.own → Shadows s pages
-    → IsPart s p k (get_or pages (overlay_of p k) []) event now log-now reply notices → Shadows now (set pages (overlay_of p k) log-now)
-part-shadows s now pages p k event log-now reply notices inside h part = page-shadows s now pages (overlay_of p k) log-now inside h part.count part.others part.shadow
+pub part-shadows : (s now : State) (pages : List (List Access)) (p : ℕ) (k : Kind) (event : Event)
+    (log-now : List Access) (reply : Reply) (notices : List Notice) → overlay_of p k < length s.own → Shadows s pages
+    → IsPart s p k (get_or pages (overlay_of p k) []) event now log-now reply notices
+    → Shadows now (set pages (overlay_of p k) log-now)
+part-shadows s now pages p k event log-now reply notices inside h part =
+    page-shadows s now pages (overlay_of p k) log-now inside h part.count part.others part.shadow
 
-pub timed-shadows : (s now : State) (pages : List (List Access)) (p : ℕ) (event : Event) (log-now : List Access) (reply : Reply) (owed : Bool) (notices : List Notice) → 2 * p < length s.own → Shadows s pages
-    → IsTimedPart s p (get_or pages (2 * p) []) event now log-now reply owed notices → Shadows now (set pages (2 * p) log-now)
-timed-shadows s now pages p event log-now reply owed notices inside h part = page-shadows s now pages (2 * p) log-now inside h part.count part.others part.shadow
+pub timed-shadows : (s now : State) (pages : List (List Access)) (p : ℕ) (event : Event) (log-now : List Access)
+    (reply : Reply) (owed : Bool) (notices : List Notice) → 2 * p < length s.own → Shadows s pages
+    → IsTimedPart s p (get_or pages (2 * p) []) event now log-now reply owed notices
+    → Shadows now (set pages (2 * p) log-now)
+timed-shadows s now pages p event log-now reply owed notices inside h part =
+    page-shadows s now pages (2 * p) log-now inside h part.count part.others part.shadow
 
-pub timed-live : (old now : BoardModel) (pages : List (List Access)) (p : ℕ) (event : Event) (log-now : List Access) (reply : Reply) (owed : Bool) (notices : List Notice) → IsTimedPart old.state p (get_or pages (2 * p) []) event now.state log-now reply owed notices
+pub timed-live : (old now : BoardModel) (pages : List (List Access)) (p : ℕ) (event : Event) (log-now : List Access)
+    (reply : Reply) (owed : Bool) (notices : List Notice)
+    → IsTimedPart old.state p (get_or pages (2 * p) []) event now.state log-now reply owed notices
     → IsTimed p (live old pages) event (live now (set pages (2 * p) log-now)) reply owed notices
 timed-live old now pages p event log-now reply owed notices part = record {
   looks = part.looks;
@@ -62,15 +77,21 @@ timed-live old now pages p event log-now reply owed notices part = record {
 }
 
 -- the same, in terms of the whole board
-pub timed-at : (old now : BoardModel) (pages : List (List Access)) (other : LiveModel) (p i : ℕ) (log log-now : List Access) (event : Event) (reply : Reply) (owed : Bool) (notices : List Notice) → live old pages ≡ other → i ≡ 2 * p → log ≡ get_or pages (2 * p) []
-    → IsTimedPart old.state p log event now.state log-now reply owed notices → IsTimed p other event (live now (set pages i log-now)) reply owed notices
+pub timed-at : (old now : BoardModel) (pages : List (List Access)) (other : LiveModel) (p i : ℕ)
+    (log log-now : List Access) (event : Event) (reply : Reply) (owed : Bool) (notices : List Notice)
+    → live old pages ≡ other → i ≡ 2 * p → log ≡ get_or pages (2 * p) []
+    → IsTimedPart old.state p log event now.state log-now reply owed notices
+    → IsTimed p other event (live now (set pages i log-now)) reply owed notices
 timed-at old now pages other p i log log-now event reply owed notices is index page part =
     subst (λ m. IsTimed p m event (live now (set pages i log-now)) reply owed notices) is
     (subst (λ n. IsTimed p (live old pages) event (live now (set pages n log-now)) reply owed notices) (sym index)
-    (timed-live old now pages p event log-now reply owed notices (subst (λ l. IsTimedPart old.state p l event now.state log-now reply owed notices) page part)))
+    (timed-live old now pages p event log-now reply owed notices
+    (subst (λ l. IsTimedPart old.state p l event now.state log-now reply owed notices) page part)))
 
-pub part-live : (old now : BoardModel) (pages : List (List Access)) (p : ℕ) (k : Kind) (event : Event) (log-now : List Access) (reply : Reply) (notices : List Notice)
-    → IsPart old.state p k (get_or pages (overlay_of p k) []) event now.state log-now reply notices → IsLive (live old pages) event (live now (set pages (overlay_of p k) log-now)) reply notices
+pub part-live : (old now : BoardModel) (pages : List (List Access)) (p : ℕ) (k : Kind) (event : Event)
+    (log-now : List Access) (reply : Reply) (notices : List Notice)
+    → IsPart old.state p k (get_or pages (overlay_of p k) []) event now.state log-now reply notices
+    → IsLive (live old pages) event (live now (set pages (overlay_of p k) log-now)) reply notices
 part-live old now pages p k event log-now reply notices part = record {
   vp = p;
   kind = k;
@@ -81,61 +102,82 @@ part-live old now pages p k event log-now reply notices part = record {
 }
 
 -- an event without accesses
-pub untouched-live : (old now : BoardModel) (pages : List (List Access)) (event : Event) (reply : Reply) (notices : List Notice) → (now.state, reply, notices) ≡ step old.state event → IsLive (live old pages) event (live now pages) reply notices
+pub untouched-live : (old now : BoardModel) (pages : List (List Access)) (event : Event) (reply : Reply)
+    (notices : List Notice) → (now.state, reply, notices) ≡ step old.state event
+    → IsLive (live old pages) event (live now pages) reply notices
 unfolding run_of
 untouched-live old now pages event reply notices is = record {
   vp = 0;
   kind = kind.Sim;
   news = [];
   pages = sym (set-get_or pages 0 []);
-  run = ap (λ (o : Outcome). (o.0, o.1 ∷ [], o.2 ++ [])) (sym is) ∙ ap (λ (ns : List Notice). (now.state, reply ∷ [], ns)) (append-nil notices);
+  run = ap (λ (o : Outcome). (o.0, o.1 ∷ [], o.2 ++ [])) (sym is)
+      ∙ ap (λ (ns : List Notice). (now.state, reply ∷ [], ns)) (append-nil notices);
   careful = λ _. tt;
 }
 
-pub quiet-live : (old now : LiveModel) (event : Event) (reply : Reply) (notices : List Notice) → IsQuietly old event now reply notices → IsLive old event now reply notices
-quiet-live old now event reply notices quiet = subst (λ pages. IsLive old event (live now.board pages) reply notices) (sym quiet.pages) (untouched-live old.board now.board old.pages event reply notices quiet.performs.step)
+pub quiet-live : (old now : LiveModel) (event : Event) (reply : Reply) (notices : List Notice)
+    → IsQuietly old event now reply notices → IsLive old event now reply notices
+quiet-live old now event reply notices quiet =
+    subst (λ pages. IsLive old event (live now.board pages) reply notices) (sym quiet.pages)
+    (untouched-live old.board now.board old.pages event reply notices quiet.performs.step)
 
 pub same-shadows : (s now : State) (pages : List (List Access)) → now.own ≡ s.own → Shadows s pages → Shadows now pages
 same-shadows s now pages own h = record {
   count = h.count ∙ sym (ap length own);
   few = h.few;
-  words = λ k w low small. h.words k w (omega (arith, low, ap length own)) small ∙ ap (λ l. word_of (record s { own = l }) k w) (sym own);
+  words = λ k w low small. h.words k w (omega (arith, low, ap length own)) small
+      ∙ ap (λ l. word_of (record s { own = l }) k w) (sym own);
 }
 
-pub quietly-at : (old other now : LiveModel) (event : Event) (reply : Reply) (notices : List Notice) → old ≡ other → IsQuietly old event now reply notices → IsQuietly other event now reply notices
+pub quietly-at : (old other now : LiveModel) (event : Event) (reply : Reply) (notices : List Notice) → old ≡ other
+    → IsQuietly old event now reply notices → IsQuietly other event now reply notices
 quietly-at old other now event reply notices is h = subst (λ m. IsQuietly m event now reply notices) is h
 
 -- a post to a port that is not open
-pub not-open : (s now : State) (number kind : ℕ) (payload : ArrayVec ℕ) (reply : Reply) (notices : List Notice) → port_at (ports_of s) number ≡ None → (now, reply, notices) ≡ step s (Post number kind payload) → now.own ≡ s.own
+pub not-open : (s now : State) (number kind : ℕ) (payload : ArrayVec ℕ) (reply : Reply) (notices : List Notice)
+    → port_at (ports_of s) number ≡ None → (now, reply, notices) ≡ step s (Post number kind payload) → now.own ≡ s.own
 unfolding step
 not-open s now number kind payload reply notices none is = ap (λ (o : Outcome). o.0.own) is ∙ rw none refl
 
 -- a page of a list, whatever is taken where there is none
-pub page-at : (pages : List (List Access)) (o : ℕ) (page : List Access) → o < length pages → page ≡ get_or pages o page → page ≡ get_or pages o []
+pub page-at : (pages : List (List Access)) (o : ℕ) (page : List Access) → o < length pages
+    → page ≡ get_or pages o page → page ≡ get_or pages o []
 page-at pages o page inside is = is ∙ get_or_default pages o page [] inside
 
-pub part-at : (s : State) (p : ℕ) (k : Kind) (log other : List Access) (event : Event) (now : State) (log-now : List Access) (reply : Reply) (notices : List Notice) → log ≡ other → IsPart s p k log event now log-now reply notices
+pub part-at : (s : State) (p : ℕ) (k : Kind) (log other : List Access) (event : Event) (now : State)
+    (log-now : List Access) (reply : Reply) (notices : List Notice) → log ≡ other
+    → IsPart s p k log event now log-now reply notices
     → IsPart s p k other event now log-now reply notices
-part-at s p k log other event now log-now reply notices is part = subst (λ l. IsPart s p k l event now log-now reply notices) is part
+part-at s p k log other event now log-now reply notices is part =
+    subst (λ l. IsPart s p k l event now log-now reply notices) is part
 
-pub live-at : (old other now : LiveModel) (event : Event) (reply : Reply) (notices : List Notice) → old ≡ other → IsLive old event now reply notices → IsLive other event now reply notices
+pub live-at : (old other now : LiveModel) (event : Event) (reply : Reply) (notices : List Notice) → old ≡ other
+    → IsLive old event now reply notices → IsLive other event now reply notices
 live-at old other now event reply notices is h = subst (λ m. IsLive m event now reply notices) is h
 
-pub indexed-live : (old now : BoardModel) (pages : List (List Access)) (i o : ℕ) (log-now : List Access) (event : Event) (reply : Reply) (notices : List Notice) → i ≡ o → IsLive (live old pages) event (live now (set pages o log-now)) reply notices
+pub indexed-live : (old now : BoardModel) (pages : List (List Access)) (i o : ℕ) (log-now : List Access)
+    (event : Event) (reply : Reply) (notices : List Notice) → i ≡ o
+    → IsLive (live old pages) event (live now (set pages o log-now)) reply notices
     → IsLive (live old pages) event (live now (set pages i log-now)) reply notices
-indexed-live old now pages i o log-now event reply notices is h = subst (λ n. IsLive (live old pages) event (live now (set pages n log-now)) reply notices) (sym is) h
+indexed-live old now pages i o log-now event reply notices is h =
+    subst (λ n. IsLive (live old pages) event (live now (set pages n log-now)) reply notices) (sym is) h
 
 -- a signal to a port that is not open
-pub not-signalled : (s now : State) (number flag : ℕ) (reply : Reply) (notices : List Notice) → port_at (ports_of s) number ≡ None → (now, reply, notices) ≡ step s (Signal number flag) → now.own ≡ s.own
+pub not-signalled : (s now : State) (number flag : ℕ) (reply : Reply) (notices : List Notice)
+    → port_at (ports_of s) number ≡ None → (now, reply, notices) ≡ step s (Signal number flag) → now.own ≡ s.own
 unfolding step
 not-signalled s now number flag reply notices none is = ap (λ (o : Outcome). o.0.own) is ∙ rw none refl
 
 -- a look at the slots of one message page
-pub viewed-shadows : (s now : State) (pages : List (List Access)) (p : ℕ) (log-now : List Access) (notices : List Notice) → 2 * p < length s.own → Shadows s pages
+pub viewed-shadows : (s now : State) (pages : List (List Access)) (p : ℕ) (log-now : List Access)
+    (notices : List Notice) → 2 * p < length s.own → Shadows s pages
     → IsViewed s p (get_or pages (2 * p) []) now log-now notices → Shadows now (set pages (2 * p) log-now)
-viewed-shadows s now pages p log-now notices inside h v = page-shadows s now pages (2 * p) log-now inside h v.watched.count v.watched.others v.shadow
+viewed-shadows s now pages p log-now notices inside h v =
+    page-shadows s now pages (2 * p) log-now inside h v.watched.count v.watched.others v.shadow
 
-pub viewed-observed : (old now : BoardModel) (pages : List (List Access)) (p : ℕ) (log-now : List Access) (notices : List Notice) → IsViewed old.state p (get_or pages (2 * p) []) now.state log-now notices
+pub viewed-observed : (old now : BoardModel) (pages : List (List Access)) (p : ℕ) (log-now : List Access)
+    (notices : List Notice) → IsViewed old.state p (get_or pages (2 * p) []) now.state log-now notices
     → IsObserved p (live old pages) (live now (set pages (2 * p) log-now)) notices
 viewed-observed old now pages p log-now notices v = record {
   news = v.watched.news;
@@ -145,34 +187,49 @@ viewed-observed old now pages p log-now notices v = record {
   run = v.watched.run;
 }
 
-pub viewed-at : (s : State) (p : ℕ) (log other : List Access) (now : State) (log-now : List Access) (notices : List Notice) → log ≡ other → IsViewed s p log now log-now notices → IsViewed s p other now log-now notices
+pub viewed-at : (s : State) (p : ℕ) (log other : List Access) (now : State) (log-now : List Access)
+    (notices : List Notice) → log ≡ other → IsViewed s p log now log-now notices
+    → IsViewed s p other now log-now notices
 viewed-at s p log other now log-now notices is v = subst (λ l. IsViewed s p l now log-now notices) is v
 
-pub observed-at : (old other now : LiveModel) (p : ℕ) (notices : List Notice) → old ≡ other → IsObserved p old now notices → IsObserved p other now notices
+pub observed-at : (old other now : LiveModel) (p : ℕ) (notices : List Notice) → old ≡ other
+    → IsObserved p old now notices → IsObserved p other now notices
 observed-at old other now p notices is h = subst (λ m. IsObserved p m now notices) is h
 
-pub indexed-observed : (old now : BoardModel) (pages : List (List Access)) (i o p : ℕ) (log-now : List Access) (notices : List Notice) → i ≡ o → IsObserved p (live old pages) (live now (set pages o log-now)) notices
+pub indexed-observed : (old now : BoardModel) (pages : List (List Access)) (i o p : ℕ) (log-now : List Access)
+    (notices : List Notice) → i ≡ o → IsObserved p (live old pages) (live now (set pages o log-now)) notices
     → IsObserved p (live old pages) (live now (set pages i log-now)) notices
-indexed-observed old now pages i o p log-now notices is h = subst (λ n. IsObserved p (live old pages) (live now (set pages n log-now)) notices) (sym is) h
+indexed-observed old now pages i o p log-now notices is h =
+    subst (λ n. IsObserved p (live old pages) (live now (set pages n log-now)) notices) (sym is) h
 
 -- what an EOM probed, in terms of the whole board
-pub probed-at : (old now : BoardModel) (pages : List (List Access)) (other : LiveModel) (p i : ℕ) (log log-now : List Access) → live old pages ≡ other → i ≡ 2 * p → 2 * p < length pages → log ≡ get_or pages (2 * p) []
-    → (IsShown old.state p kind.Sim → HasProbed old.state p log log-now) → IsShown other.board.state p kind.Sim → HasProbed other.board.state p (log_of other p kind.Sim) (log_of (live now (set pages i log-now)) p kind.Sim)
+pub probed-at : (old now : BoardModel) (pages : List (List Access)) (other : LiveModel) (p i : ℕ)
+    (log log-now : List Access) → live old pages ≡ other → i ≡ 2 * p → 2 * p < length pages
+    → log ≡ get_or pages (2 * p) []
+    → (IsShown old.state p kind.Sim → HasProbed old.state p log log-now) → IsShown other.board.state p kind.Sim
+    → HasProbed other.board.state p (log_of other p kind.Sim) (log_of (live now (set pages i log-now)) p kind.Sim)
 probed-at old now pages other p i log log-now is index inside page h =
-    subst (λ m. IsShown m.board.state p kind.Sim → HasProbed m.board.state p (log_of m p kind.Sim) (get_or (set pages i log-now) (2 * p) [])) is
-    (λ shown. subst (λ l. HasProbed old.state p l (get_or (set pages i log-now) (2 * p) [])) page (subst (HasProbed old.state p log) (sym there) (h shown)))
+    subst (λ m. IsShown m.board.state p kind.Sim
+    → HasProbed m.board.state p (log_of m p kind.Sim) (get_or (set pages i log-now) (2 * p) [])) is
+    (λ shown. subst (λ l. HasProbed old.state p l (get_or (set pages i log-now) (2 * p) [])) page
+    (subst (HasProbed old.state p log) (sym there) (h shown)))
   where
     there : get_or (set pages i log-now) (2 * p) [] ≡ log-now
     there = ap (λ n. get_or (set pages n log-now) (2 * p) []) index ∙ get_or-set_same pages (2 * p) log-now [] inside
 
 -- a reset keeps the shadow
-pub reset-shadows : (s now : State) (pages : List (List Access)) (p i j : ℕ) (page1 page2 log1 log2 : List Access) (event : Event) (reply : Reply) (notices : List Notice) → i ≡ 2 * p → j ≡ 2 * p + 1 → 2 * p + 1 < length s.own → Shadows s pages
-    → IsResetPart s p page1 event now log1 reply notices → IsCleared 512 page2 log2 → Shadows now (set (set pages i log1) j log2)
+pub reset-shadows : (s now : State) (pages : List (List Access)) (p i j : ℕ) (page1 page2 log1 log2 : List Access)
+    (event : Event) (reply : Reply) (notices : List Notice) → i ≡ 2 * p → j ≡ 2 * p + 1 → 2 * p + 1 < length s.own
+    → Shadows s pages
+    → IsResetPart s p page1 event now log1 reply notices → IsCleared 512 page2 log2
+    → Shadows now (set (set pages i log1) j log2)
 reset-shadows s now pages p i j page1 page2 log1 log2 event reply notices a b inside h part c =
-    subst (λ n. Shadows now (set (set pages n log1) j log2)) (sym a) (subst (λ n. Shadows now (set (set pages (2 * p) log1) n log2)) (sym b) (record {
+    subst (λ n. Shadows now (set (set pages n log1) j log2)) (sym a)
+    (subst (λ n. Shadows now (set (set pages (2 * p) log1) n log2)) (sym b) (record {
       count = length-set pages1 (2 * p + 1) log2 ∙ length-set pages (2 * p) log1 ∙ h.count ∙ sym part.count;
       few = omega (arith, length-set pages1 (2 * p + 1) log2, length-set pages (2 * p) log1, h.few);
-      words = λ k w low small. by k w (omega (arith, low, part.count)) small (cases_eq k (2 * p)) (cases_eq k (2 * p + 1));
+      words = λ k w low small.
+          by k w (omega (arith, low, part.count)) small (cases_eq k (2 * p)) (cases_eq k (2 * p + 1));
     }))
   where
     pages1 : List (List Access)
@@ -181,17 +238,28 @@ reset-shadows s now pages p i j page1 page2 log1 log2 event reply notices a b in
     size : 2 * p + 1 < length pages
     size = omega (arith, inside, h.count)
 
-    by : (k w : ℕ) → k < length s.own → w < 512 → (k ≡ 2 * p) ⊎ (k ≢ 2 * p) → (k ≡ 2 * p + 1) ⊎ (k ≢ 2 * p + 1) → known (get_or (set (set pages (2 * p) log1) (2 * p + 1) log2) k []) w ≡ word_of now k w
+    by : (k w : ℕ) → k < length s.own → w < 512 → (k ≡ 2 * p) ⊎ (k ≢ 2 * p) → (k ≡ 2 * p + 1) ⊎ (k ≢ 2 * p + 1)
+        → known (get_or (set (set pages (2 * p) log1) (2 * p + 1) log2) k []) w ≡ word_of now k w
     by k w low small which (inl e) =
-        ap (λ n. known (get_or (set pages1 (2 * p + 1) log2) n []) w) e ∙ ap (λ l. known l w) (get_or-set_same pages1 (2 * p + 1) log2 [] (omega (arith, size, length-set pages (2 * p) log1)) ∙ c.page)
+        ap (λ n. known (get_or (set pages1 (2 * p + 1) log2) n []) w) e
+        ∙ ap (λ l. known l w) (get_or-set_same pages1 (2 * p + 1) log2 []
+        (omega (arith, size, length-set pages (2 * p) log1)) ∙ c.page)
         ∙ clears-known 512 c.news page2 c.clears w small ∙ sym (part.flags w small) ∙ ap (λ n. word_of now n w) (sym e)
     by k w low small (inl e) (inr other) =
-        ap (λ l. known l w) (get_or-set_other pages1 (2 * p + 1) k log2 [] other) ∙ ap (λ n. known (get_or pages1 n []) w) e ∙ ap (λ l. known l w) (get_or-set_same pages (2 * p) log1 [] (omega (arith, size)))
+        ap (λ l. known l w) (get_or-set_other pages1 (2 * p + 1) k log2 [] other)
+        ∙ ap (λ n. known (get_or pages1 n []) w) e
+        ∙ ap (λ l. known l w) (get_or-set_same pages (2 * p) log1 [] (omega (arith, size)))
         ∙ part.shadow w small ∙ ap (λ n. word_of now n w) (sym e)
-    by k w low small (inr ne) (inr other) = ap (λ l. known l w) (get_or-set_other pages1 (2 * p + 1) k log2 [] other ∙ get_or-set_other pages (2 * p) k log1 [] ne) ∙ h.words k w low small ∙ sym (part.others k w small ne other)
+    by k w low small (inr ne) (inr other) =
+        ap (λ l. known l w) (get_or-set_other pages1 (2 * p + 1) k log2 [] other
+        ∙ get_or-set_other pages (2 * p) k log1 [] ne) ∙ h.words k w low small ∙ sym (part.others k w small ne other)
 
-pub reset-at : (old now : BoardModel) (pages : List (List Access)) (other : LiveModel) (p i j n : ℕ) (page1 page2 log1 log2 : List Access) (reply : Reply) (notices : List Notice) → live old pages ≡ other → i ≡ 2 * p → j ≡ 2 * p + 1 → n ≡ p
-    → page1 ≡ get_or pages (2 * p) [] → page2 ≡ get_or pages (2 * p + 1) [] → IsResetPart old.state p page1 (event.Reset n) now.state log1 reply notices → IsCleared 512 page2 log2 → IsReset p other (live now (set (set pages i log1) j log2)) reply notices
+pub reset-at : (old now : BoardModel) (pages : List (List Access)) (other : LiveModel) (p i j n : ℕ)
+    (page1 page2 log1 log2 : List Access) (reply : Reply) (notices : List Notice) → live old pages ≡ other → i ≡ 2 * p
+    → j ≡ 2 * p + 1 → n ≡ p
+    → page1 ≡ get_or pages (2 * p) [] → page2 ≡ get_or pages (2 * p + 1) []
+    → IsResetPart old.state p page1 (event.Reset n) now.state log1 reply notices → IsCleared 512 page2 log2
+    → IsReset p other (live now (set (set pages i log1) j log2)) reply notices
 reset-at old now pages other p i j n page1 page2 log1 log2 reply notices is a b c d e part-there clear-there =
     subst (λ m. IsReset p m (live now (set (set pages i log1) j log2)) reply notices) is (record {
       looks = part.looks;
@@ -205,7 +273,8 @@ reset-at old now pages other p i j n page1 page2 log1 log2 reply notices is a b 
     })
   where
     part : IsResetPart old.state p (get_or pages (2 * p) []) (event.Reset p) now.state log1 reply notices
-    part = subst (λ m. IsResetPart old.state p (get_or pages (2 * p) []) (event.Reset m) now.state log1 reply notices) c (subst (λ l. IsResetPart old.state p l (event.Reset n) now.state log1 reply notices) d part-there)
+    part = subst (λ m. IsResetPart old.state p (get_or pages (2 * p) []) (event.Reset m) now.state log1 reply notices)
+        c (subst (λ l. IsResetPart old.state p l (event.Reset n) now.state log1 reply notices) d part-there)
 
     clear : IsCleared 512 (get_or pages (2 * p + 1) []) log2
     clear = subst (λ l. IsCleared 512 l log2) e clear-there

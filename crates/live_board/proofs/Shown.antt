@@ -59,35 +59,49 @@ no_nothing p kind.Sim e = cc
 no_nothing p kind.Sief e = cc
 
 -- an overlay that a guest sees at a page is visible there
-pub shows : (s : Space) (page p : ℕ) (k : Kind) → owner_of s page ≡ owner_at p k → (nat_lt page (page_count s) ≡ true) × (visible s page ≡ Some (overlay_of p k))
+pub shows : (s : Space) (page p : ℕ) (k : Kind) → owner_of s page ≡ owner_at p k → (nat_lt page (page_count s) ≡ true)
+    × (visible s page ≡ Some (overlay_of p k))
 shows s page p k e = judged (nat_lt page (page_count s)) refl
   where
     seen : (o : Option ℕ) → option_map_or overlay_owner o Guest ≡ owner_at p k → o ≡ Some (overlay_of p k)
     seen None f = absurd (no_guest p k f)
     seen (Some o) f = ap (λ n. Some n) (own_number o p k f)
 
-    judged : (b : Bool) → nat_lt page (page_count s) ≡ b → (nat_lt page (page_count s) ≡ true) × (visible s page ≡ Some (overlay_of p k))
-    judged true is = (is, seen (visible s page) (sym (ap (λ (b : Bool). if b then option_map_or overlay_owner (visible s page) Guest else Nothing) is) ∙ e))
-    judged false is = absurd (no_nothing p k (sym (ap (λ (b : Bool). if b then option_map_or overlay_owner (visible s page) Guest else Nothing) is) ∙ e))
+    judged : (b : Bool) → nat_lt page (page_count s) ≡ b → (nat_lt page (page_count s) ≡ true)
+        × (visible s page ≡ Some (overlay_of p k))
+    judged true is = (
+      is,
+      seen (visible s page)
+          (sym (ap (λ (b : Bool). if b then option_map_or overlay_owner (visible s page) Guest else Nothing) is) ∙ e),
+    )
+    judged false is =
+        absurd
+        (no_nothing p k
+        (sym (ap (λ (b : Bool). if b then option_map_or overlay_owner (visible s page) Guest else Nothing) is) ∙ e))
 
 -- a store of a word of it is not refused
-not-refused : (s : Space) (number w o : ℕ) → nat_lt number (page_count s) ≡ true → visible s number ≡ Some o → w < 512 → refusal_of s (number * 4096 + 8 * w) 8 ≡ None
+not-refused : (s : Space) (number w o : ℕ) → nat_lt number (page_count s) ≡ true → visible s number ≡ Some o → w < 512
+    → refusal_of s (number * 4096 + 8 * w) 8 ≡ None
 not-refused s number w o inside seen low =
     let page : (number * 4096 + 8 * w) / 4096 ≡ number = omega arith in
     let at : nat_lt 4096 ((number * 4096 + 8 * w) % 4096 + 8) ≡ false = grind (arith, nat_tests) in
     rw (page, inside, at, seen, and-false (is_sparse s)) refl
 
 -- consuming messages changes only the tickets of slots
-still-ticket : (s : State) (p i : ℕ) (o : Option ℕ) → (consumed_ticket s p i o).0 ≡ record s { slots = (consumed_ticket s p i o).0.slots }
+still-ticket : (s : State) (p i : ℕ) (o : Option ℕ)
+    → (consumed_ticket s p i o).0 ≡ record s { slots = (consumed_ticket s p i o).0.slots }
 still-ticket s p i None = refl
 still-ticket s p i (Some t) = refl
 
 still-consumed : (s : State) (p i : ℕ) → (consumed s p i).0 ≡ record s { slots = (consumed s p i).0.slots }
 unfolding consumed
-still-consumed s p i = elim (is_slot_empty s p i) as (λ b. (if b then consumed_ticket s p i (slot_of s p i) else nothing s).0 ≡ record s { slots = (if b then consumed_ticket s p i (slot_of s p i) else nothing s).0.slots }) [
-  | true ↦ still-ticket s p i (slot_of s p i)
-  | false ↦ refl
-]
+still-consumed s p i =
+    elim (is_slot_empty s p i) as
+    (λ b. (if b then consumed_ticket s p i (slot_of s p i) else nothing s).0
+    ≡ record s { slots = (if b then consumed_ticket s p i (slot_of s p i) else nothing s).0.slots }) [
+      | true ↦ still-ticket s p i (slot_of s p i)
+      | false ↦ refl
+    ]
 
 still-below : (s : State) (p n : ℕ) → (consumed_below s p n).0 ≡ record s { slots = (consumed_below s p n).0.slots }
 unfolding consumed_below
@@ -96,7 +110,8 @@ still-below s p (suc n) =
     let e : State = (consumed_below s p n).0 in
     still-consumed e p n ∙ ap (λ (t : State). record t { slots = (consumed e p n).0.slots }) (still-below s p n)
 
-pub still-in : (s : State) (owner : Owner) → (consumed_in s owner).0 ≡ record s { slots = (consumed_in s owner).0.slots }
+pub still-in : (s : State) (owner : Owner)
+    → (consumed_in s owner).0 ≡ record s { slots = (consumed_in s owner).0.slots }
 still-in s Guest = refl
 still-in s (Sim p) = still-below s p 16
 still-in s (Sief p) = refl
@@ -107,7 +122,9 @@ abbrev pub with_word : State → ℕ → ℕ → ℕ → State
 with_word s o w value = record s { own = set s.own o (overwritten (get_or s.own o []) (8 * w) (to_le_bytes w64 value)) }
 
 -- a store of a word that a guest sees
-pub stored-word : (s : State) (p : ℕ) (k : Kind) (w value : ℕ) → IsShown s p k → w < 512 → step s (store_of s p k w value) ≡ answered Done (consumed_in (with_word s (overlay_of p k) w value) (owner_at p k))
+pub stored-word : (s : State) (p : ℕ) (k : Kind) (w value : ℕ) → IsShown s p k → w < 512
+    → step s (store_of s p k w value)
+    ≡ answered Done (consumed_in (with_word s (overlay_of p k) w value) (owner_at p k))
 unfolding step
 stored-word s p k w value shown low =
     let number : ℕ = number_at s p k in
@@ -116,27 +133,35 @@ stored-word s p k w value shown low =
     let seen = shows (space_of s) number p k shown in
     let page : address / 4096 ≡ number = omega arith in
     let at : address % 4096 ≡ 8 * w = omega arith in
-    let none : refusal_of (space_of s) address 8 ≡ None = not-refused (space_of s) number w (overlay_of p k) seen.0 seen.1 low in
-    let there : visible (space_of s) (address / 4096) ≡ Some (overlay_of p k) = ap (visible (space_of s)) page ∙ seen.1 in
+    let none : refusal_of (space_of s) address 8 ≡ None =
+    not-refused (space_of s) number w (overlay_of p k) seen.0 seen.1 low in
+    let there : visible (space_of s) (address / 4096) ≡ Some (overlay_of p k) =
+    ap (visible (space_of s)) page ∙ seen.1 in
     let owner : owner_of (space_of s) (address / 4096) ≡ owner_at p k = ap (owner_of (space_of s)) page ∙ shown in
-    let stored : after_store (space_of s) address bytes ≡ space_of (with_word s (overlay_of p k) w value) = rw (none, there, at) refl in
-    ap (λ o. option_map_or (refused s) o (answered Done (consumed_in (with_bytes s address bytes) (owner_of (space_of s) (address / 4096))))) none
+    let stored : after_store (space_of s) address bytes ≡ space_of (with_word s (overlay_of p k) w value) =
+    rw (none, there, at) refl in
+    ap (λ o. option_map_or (refused s) o
+    (answered Done (consumed_in (with_bytes s address bytes) (owner_of (space_of s) (address / 4096))))) none
     ∙ (λ i. answered Done (consumed_in (with_space s (stored i)) (owner i)))
 
 -- what the host found in a word that a guest sees is a run of the board
-pub passed-same : (s : State) (p : ℕ) (k : Kind) (w value : ℕ) (notices : List Notice) → value ≡ word_of s (overlay_of p k) w → notices ≡ [] → IsPassed s p k w value s notices
+pub passed-same : (s : State) (p : ℕ) (k : Kind) (w value : ℕ) (notices : List Notice)
+    → value ≡ word_of s (overlay_of p k) w → notices ≡ [] → IsPassed s p k w value s notices
 unfolding run_of
 passed-same s p k w value notices is none =
     let e : (value == word_of s (overlay_of p k) w) ≡ true = grind (arith, nat_tests) in
     rw (e, none) refl
 
-pub passed-other : (s now : State) (p : ℕ) (k : Kind) (w value : ℕ) (reply : Reply) (notices : List Notice) → value ≢ word_of s (overlay_of p k) w → IsShown s p k → w < 512
+pub passed-other : (s now : State) (p : ℕ) (k : Kind) (w value : ℕ) (reply : Reply) (notices : List Notice)
+    → value ≢ word_of s (overlay_of p k) w → IsShown s p k → w < 512
     → (now, reply, notices) ≡ step s (store_of s p k w value) → IsPassed s p k w value now notices
 unfolding run_of
 passed-other s now p k w value reply notices other shown low is =
     let e : (value == word_of s (overlay_of p k) w) ≡ false = grind (arith, nat_tests) in
     let done : reply ≡ Done = ap (λ (o : Outcome). o.1) (is ∙ stored-word s p k w value shown low) in
-    rw e (let run = sym is ∙ ap (λ r. (now, r, notices)) done in ap (λ (o : Outcome). (o.0, o.1 ∷ [], o.2 ++ [])) run ∙ ap (λ (ns : List Notice). (now, Done ∷ [], ns)) (append-nil notices))
+    rw e (let run = sym is ∙ ap (λ r. (now, r, notices)) done in
+    ap (λ (o : Outcome). (o.0, o.1 ∷ [], o.2 ++ [])) run
+    ∙ ap (λ (ns : List Notice). (now, Done ∷ [], ns)) (append-nil notices))
 
 -- the owner that the summary has for a page, if it has one
 beyond : (os : List Owner) (i : ℕ) (d : Owner) → length os ≤ i → get_or os i d ≡ d
@@ -144,9 +169,14 @@ beyond [] i d h = refl
 beyond (o ∷ os) zero d h = absurd (omega (arith, h))
 beyond (o ∷ os) (suc i) d h = beyond os i d (omega (arith, h))
 
-pub seen-owner : (s : Space) (page : ℕ) (owner : Owner) → get_or (owners_of s) page Nothing ≡ owner → owner ≢ Nothing → owner_of s page ≡ owner
+pub seen-owner : (s : Space) (page : ℕ) (owner : Owner) → get_or (owners_of s) page Nothing ≡ owner → owner ≢ Nothing
+    → owner_of s page ≡ owner
 seen-owner s page owner is some = by (cases_lt page (length s.pages))
   where
     by : (page < length s.pages) ⊎ (length s.pages ≤ page) → owner_of s page ≡ owner
-    by (inl low) = sym (get_or-map-range_with_len (owner_of s) 0 (length s.pages) page page Nothing low (omega arith)) ∙ is
-    by (inr high) = absurd (some (sym is ∙ beyond (owners_of s) page Nothing (omega (arith, length-map-range_with_len (owner_of s) 0 (length s.pages), high))))
+    by (inl low) =
+        sym (get_or-map-range_with_len (owner_of s) 0 (length s.pages) page page Nothing low (omega arith)) ∙ is
+    by (inr high) =
+        absurd
+        (some (sym is ∙ beyond (owners_of s) page Nothing
+        (omega (arith, length-map-range_with_len (owner_of s) 0 (length s.pages), high))))

@@ -9,5 +9,9 @@ use Rattle.synic_board.specs.Sound.{IsSound, PayloadFits}
 use Rattle.synic_board.specs.Step.{step}
 use Rattle.synic_board.proofs.keeping.Steps.{keeps-step}
 
-pub stays : (s now : State) (e : Event) (reply : Reply) (notices : List Notice) → PayloadFits e → IsSound s → (now, reply, notices) ≡ step s e → processors now ≡ processors s
-stays s now e reply notices fits sound is = ap (λ (o : Outcome). processors o.0) is ∙ (keeps-step (processors s) s e fits (record { count = refl; whole = sound.whole; empty = sound.empty })).kept.count
+pub stays : (s now : State) (e : Event) (reply : Reply) (notices : List Notice) → PayloadFits e → IsSound s
+    → (now, reply, notices) ≡ step s e → processors now ≡ processors s
+stays s now e reply notices fits sound is =
+    ap (λ (o : Outcome). processors o.0) is
+    ∙ (keeps-step (processors s) s e fits
+    (record { count = refl; whole = sound.whole; empty = sound.empty })).kept.count

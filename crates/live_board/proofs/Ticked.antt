@@ -40,32 +40,48 @@ other-false : (x h : ℕ) → x ≢ h → (x == h) ≡ false
 other-false x h e = grind (arith, nat_tests)
 
 -- what looks and marks show depends on the page numbers and on the accesses
-looked-cong : (m k : ℕ) (s t : State) (pages others : List (List Access)) (f g : ℕ → List Access) → ((p : ℕ) → number_at t p Sim ≡ number_at s p Sim) → ((p : ℕ) → k ≤ p → get_or others (2 * p) [] ≡ get_or pages (2 * p) []) → ((p : ℕ) → k ≤ p → g p ≡ f p)
+looked-cong : (m k : ℕ) (s t : State) (pages others : List (List Access)) (f g : ℕ → List Access)
+    → ((p : ℕ) → number_at t p Sim ≡ number_at s p Sim)
+    → ((p : ℕ) → k ≤ p → get_or others (2 * p) [] ≡ get_or pages (2 * p) []) → ((p : ℕ) → k ≤ p → g p ≡ f p)
     → looked_from t others g k m ≡ looked_from s pages f k m
 looked-cong zero k s t pages others f g number logs same = refl
 looked-cong (suc m) k s t pages others f g number logs same =
-    let first = runs.same-explained s t k Sim (g k) (get_or others (2 * k) []) (number k) ∙ (λ i. explained s k Sim (same k (omega arith) i) (logs k (omega arith) i)) in
-    let rest = looked-cong m (suc k) s t pages others f g number (λ p le. logs p (omega (arith, le))) (λ p le. same p (omega (arith, le))) in
+    let first = runs.same-explained s t k Sim (g k) (get_or others (2 * k) []) (number k)
+    ∙ (λ i. explained s k Sim (same k (omega arith) i) (logs k (omega arith) i)) in
+    let rest = looked-cong m (suc k) s t pages others f g number (λ p le. logs p (omega (arith, le)))
+    (λ p le. same p (omega (arith, le))) in
     (λ i. first i ++ rest i)
 
-marked-cong : (m k : ℕ) (s t : State) (pages others : List (List Access)) (f g f2 g2 f3 g3 : ℕ → List Access) → ((p : ℕ) → number_at t p Sim ≡ number_at s p Sim) → ((p : ℕ) → k ≤ p → get_or others (2 * p) [] ≡ get_or pages (2 * p) [])
-    → ((p : ℕ) → k ≤ p → g p ≡ f p) → ((p : ℕ) → k ≤ p → g2 p ≡ f2 p) → ((p : ℕ) → k ≤ p → g3 p ≡ f3 p) → marked_from t others g g2 g3 k m ≡ marked_from s pages f f2 f3 k m
+marked-cong : (m k : ℕ) (s t : State) (pages others : List (List Access)) (f g f2 g2 f3 g3 : ℕ → List Access)
+    → ((p : ℕ) → number_at t p Sim ≡ number_at s p Sim)
+    → ((p : ℕ) → k ≤ p → get_or others (2 * p) [] ≡ get_or pages (2 * p) [])
+    → ((p : ℕ) → k ≤ p → g p ≡ f p) → ((p : ℕ) → k ≤ p → g2 p ≡ f2 p) → ((p : ℕ) → k ≤ p → g3 p ≡ f3 p)
+    → marked_from t others g g2 g3 k m ≡ marked_from s pages f f2 f3 k m
 marked-cong zero k s t pages others f g f2 g2 f3 g3 number logs a b c = refl
 marked-cong (suc m) k s t pages others f g f2 g2 f3 g3 number logs a b c =
     let at : k ≤ k = omega arith in
-    let last = same-after s t k (g3 k) (g2 k ++ (g k ++ get_or others (2 * k) [])) (number k) ∙ (λ i. explained_after s k (c k at i) (b k at i ++ (a k at i ++ logs k at i))) in
-    let rest = marked-cong m (suc k) s t pages others f g f2 g2 f3 g3 number (λ p le. logs p (omega (arith, le))) (λ p le. a p (omega (arith, le))) (λ p le. b p (omega (arith, le))) (λ p le. c p (omega (arith, le))) in
+    let last = same-after s t k (g3 k) (g2 k ++ (g k ++ get_or others (2 * k) [])) (number k)
+    ∙ (λ i. explained_after s k (c k at i) (b k at i ++ (a k at i ++ logs k at i))) in
+    let rest = marked-cong m (suc k) s t pages others f g f2 g2 f3 g3 number (λ p le. logs p (omega (arith, le)))
+    (λ p le. a p (omega (arith, le))) (λ p le. b p (omega (arith, le))) (λ p le. c p (omega (arith, le))) in
     (λ i. rest i ++ last i)
 
-tick-grows : (s now : State) (event : Event) (reply : Reply) (notices : List Notice) → IsTick event → (now, reply, notices) ≡ step s event → IsSound s → Grows (processors s) Any s now
+tick-grows : (s now : State) (event : Event) (reply : Reply) (notices : List Notice) → IsTick event
+    → (now, reply, notices) ≡ step s event → IsSound s → Grows (processors s) Any s now
 unfolding step
-tick-grows s now event reply notices (moment, e) is sound = subst (Grows (processors s) Any s) (sym (ap (λ (o : Outcome). o.0) (is ∙ ap (step s) e))) (grows-ticked (processors s) s moment (kept_from_sound s sound))
+tick-grows s now event reply notices (moment, e) is sound =
+    subst (Grows (processors s) Any s) (sym (ap (λ (o : Outcome). o.0) (is ∙ ap (step s) e)))
+    (grows-ticked (processors s) s moment (kept_from_sound s sound))
 
-tick-stays : (s now : State) (event : Event) (reply : Reply) (notices : List Notice) → IsTick event → IsSound s → (now, reply, notices) ≡ step s event → processors now ≡ processors s
-tick-stays s now event reply notices (moment, e) sound is = stays s now (Tick moment) reply notices tt sound (is ∙ ap (step s) e)
+tick-stays : (s now : State) (event : Event) (reply : Reply) (notices : List Notice) → IsTick event → IsSound s
+    → (now, reply, notices) ≡ step s event → processors now ≡ processors s
+tick-stays s now event reply notices (moment, e) sound is =
+    stays s now (Tick moment) reply notices tt sound (is ∙ ap (step s) e)
 
 -- the tick itself
-pub tick-base : (s now : State) (k : ℕ) (pages : List (List Access)) (event : Event) (reply : Reply) (owed : List Bool) (before after : List Notice) → k ≡ processors s → IsTick event → IsSound s → IsStep s event now reply before after → length owed ≡ 8
+pub tick-base : (s now : State) (k : ℕ) (pages : List (List Access)) (event : Event) (reply : Reply)
+    (owed : List Bool) (before after : List Notice) → k ≡ processors s → IsTick event → IsSound s
+    → IsStep s event now reply before after → length owed ≡ 8
     → ((p : ℕ) → get_or owed p false ≡ false) → IsTickFrom s k 0 pages event now pages reply owed before after []
 unfolding run_of
 tick-base s now k pages event reply owed before after all tick sound one eight none = record {
@@ -100,12 +116,18 @@ tick-base s now k pages event reply owed before after all tick sound one eight n
     g = tick-grows s now event reply one.emitted tick one.step sound
 
 -- in the message page of the processor before, the inner tick sets at most MessagePending in occupied slots
-pub tick-leaves : (s s1 s2 : State) (v k m : ℕ) (pages pages2 : List (List Access)) (log log1 : List Access) (words : List ℕ) (event : Event) (reply : Reply) (owed : List Bool) (before between after late : List Notice) → v ≡ k → k < processors s
-    → IsFirst s v log s1 log1 before between → ((x : ℕ) → x < 512 → get_or words x 0 ≡ word_of s1 (2 * v) x) → IsTickFrom s1 (k + 1) m pages event s2 pages2 reply owed between after late → HasShape s1 → HasRanges s1 → HasShape s2 → HasRanges s2 → WordsGrow s2 v words × AreKept s2 v words
-tick-leaves s s1 s2 v k m pages pages2 log log1 words event reply owed before between after late same less first are inner shape ranges shape2 ranges2 = (
-  words-grow s1 s2 v words are slots shape ranges on,
-  kept-grown s1 s2 v words shape ranges shape2 ranges2 on (omega (arith, on, inner.processors)) are slots (λ i under empty. inner.fills v i (omega (arith, same)) under empty),
-)
+pub tick-leaves : (s s1 s2 : State) (v k m : ℕ) (pages pages2 : List (List Access)) (log log1 : List Access)
+    (words : List ℕ) (event : Event) (reply : Reply) (owed : List Bool) (before between after late : List Notice)
+    → v ≡ k → k < processors s
+    → IsFirst s v log s1 log1 before between → ((x : ℕ) → x < 512 → get_or words x 0 ≡ word_of s1 (2 * v) x)
+    → IsTickFrom s1 (k + 1) m pages event s2 pages2 reply owed between after late → HasShape s1 → HasRanges s1
+    → HasShape s2 → HasRanges s2 → WordsGrow s2 v words × AreKept s2 v words
+tick-leaves s s1 s2 v k m pages pages2 log log1 words event reply owed before between after late same less first are
+    inner shape ranges shape2 ranges2 = (
+      words-grow s1 s2 v words are slots shape ranges on,
+      kept-grown s1 s2 v words shape ranges shape2 ranges2 on (omega (arith, on, inner.processors)) are slots
+          (λ i under empty. inner.fills v i (omega (arith, same)) under empty),
+    )
   where
     on : v < processors s1
     on = omega (arith, same, less, ap processors first.viewed.watched.rest)
@@ -114,23 +136,33 @@ tick-leaves s s1 s2 v k m pages pages2 log log1 words event reply owed before be
     slots i under full = inner.slots v i (omega (arith, same)) under full
 
 -- three runs
-run-three : (s s1 s2 s3 : State) (a b c d : List Event) (event : Event) (reply : Reply) (first second third : List Notice) → run_of s a ≡ (s1, all_done a, first) → run_of s1 (b ++ event ∷ c) ≡ (s2, all_done b ++ reply ∷ all_done c, second)
-    → run_of s2 d ≡ (s3, all_done d, third) → run_of s ((a ++ b) ++ event ∷ (c ++ d)) ≡ (s3, all_done (a ++ b) ++ reply ∷ all_done (c ++ d), first ++ (second ++ third))
+run-three : (s s1 s2 s3 : State) (a b c d : List Event) (event : Event) (reply : Reply)
+    (first second third : List Notice) → run_of s a ≡ (s1, all_done a, first)
+    → run_of s1 (b ++ event ∷ c) ≡ (s2, all_done b ++ reply ∷ all_done c, second)
+    → run_of s2 d ≡ (s3, all_done d, third)
+    → run_of s ((a ++ b) ++ event ∷ (c ++ d))
+    ≡ (s3, all_done (a ++ b) ++ reply ∷ all_done (c ++ d), first ++ (second ++ third))
 run-three s s1 s2 s3 a b c d event reply first second third one two three =
-    ap (run_of s) events ∙ runs.run-append s a ((b ++ event ∷ c) ++ d) ∙ ap (λ (r : Run). runs.joined r (run_of r.0 ((b ++ event ∷ c) ++ d))) one
-    ∙ ap (runs.joined (s1, all_done a, first)) (runs.run-append s1 (b ++ event ∷ c) d ∙ ap (λ (r : Run). runs.joined r (run_of r.0 d)) two ∙ ap (runs.joined (s2, all_done b ++ reply ∷ all_done c, second)) three)
+    ap (run_of s) events ∙ runs.run-append s a ((b ++ event ∷ c) ++ d)
+    ∙ ap (λ (r : Run). runs.joined r (run_of r.0 ((b ++ event ∷ c) ++ d))) one
+    ∙ ap (runs.joined (s1, all_done a, first))
+    (runs.run-append s1 (b ++ event ∷ c) d ∙ ap (λ (r : Run). runs.joined r (run_of r.0 d)) two
+    ∙ ap (runs.joined (s2, all_done b ++ reply ∷ all_done c, second)) three)
     ∙ ap (λ (rs : List Reply). (s3, rs, first ++ (second ++ third))) (sym replies)
   where
     events : ((a ++ b) ++ event ∷ (c ++ d)) ≡ a ++ ((b ++ event ∷ c) ++ d)
     events = append_assoc a b (event ∷ (c ++ d)) ∙ ap (λ l. a ++ l) (sym (append_assoc b (event ∷ c) d))
 
-    replies : (all_done (a ++ b) ++ reply ∷ all_done (c ++ d)) ≡ all_done a ++ ((all_done b ++ reply ∷ all_done c) ++ all_done d)
+    replies : (all_done (a ++ b) ++ reply ∷ all_done (c ++ d))
+        ≡ all_done a ++ ((all_done b ++ reply ∷ all_done c) ++ all_done d)
     replies =
         (λ i. runs.done-append a b i ++ reply ∷ runs.done-append c d i)
-        ∙ append_assoc (all_done a) (all_done b) (reply ∷ (all_done c ++ all_done d)) ∙ ap (λ l. all_done a ++ l) (sym (append_assoc (all_done b) (reply ∷ all_done c) (all_done d)))
+        ∙ append_assoc (all_done a) (all_done b) (reply ∷ (all_done c ++ all_done d))
+        ∙ ap (λ l. all_done a ++ l) (sym (append_assoc (all_done b) (reply ∷ all_done c) (all_done d)))
 
 -- one page more
-module _ (s s1 s2 s3 : State) (k m : ℕ) (pages pages2 : List (List Access)) (log1 log3 : List Access) (event : Event) (reply : Reply) (owed : List Bool) (owe : Bool) (before between after late2 late3 : List Notice)
+module _ (s s1 s2 s3 : State) (k m : ℕ) (pages pages2 : List (List Access)) (log1 log3 : List Access) (event : Event)
+    (reply : Reply) (owed : List Bool) (owe : Bool) (before between after late2 late3 : List Notice)
     (below : 2 * k < length pages) (few : k < 8)
     (first : IsFirst s k (get_or pages (2 * k) []) s1 log1 before between)
     (inner : IsTickFrom s1 (suc k) m (set pages (2 * k) log1) event s2 pages2 reply owed between after late2)
@@ -174,13 +206,19 @@ module _ (s s1 s2 s3 : State) (k m : ℕ) (pages pages2 : List (List Access)) (l
   are-here : AreTimed s k first.viewed.watched.news last.stores last.marks (get_or pages (2 * k) [])
   are-here = record {
     shown = first.viewed.shown;
-    hidden = λ no. (first.viewed.hidden no, last.hidden (λ shown. no (shown-same s2 s k (sym (inner.regs ∙ rest-regs)) (sym (inner.guest ∙ rest-pages)) shown)));
+    hidden = λ no. (
+      first.viewed.hidden no,
+      last.hidden (λ shown. no
+          (shown-same s2 s k (sym (inner.regs ∙ rest-regs)) (sym (inner.guest ∙ rest-pages)) shown)),
+    );
     stored = last.stored;
     marked = last.marked;
-    careful = λ shown. subst (AreCareful Sim last.stores) log-here (last.careful (shown-same s s2 k (inner.regs ∙ rest-regs) (inner.guest ∙ rest-pages) shown));
+    careful = λ shown. subst (AreCareful Sim last.stores) log-here
+        (last.careful (shown-same s s2 k (inner.regs ∙ rest-regs) (inner.guest ∙ rest-pages) shown));
   }
 
-  are-other : (p : ℕ) → p ≢ k → suc k ≤ p → p < suc k + m → AreTimed s p (inner.looks p) (inner.stores p) (inner.marks p) (get_or pages (2 * p) [])
+  are-other : (p : ℕ) → p ≢ k → suc k ≤ p → p < suc k + m
+      → AreTimed s p (inner.looks p) (inner.stores p) (inner.marks p) (get_or pages (2 * p) [])
   unfolding pages1
   are-other p ne le less =
       let a = inner.are p le less in
@@ -189,31 +227,49 @@ module _ (s s1 s2 s3 : State) (k m : ℕ) (pages pages2 : List (List Access)) (l
         hidden = λ no. a.hidden (λ shown. no (shown-same s1 s p (sym rest-regs) (sym rest-pages) shown));
         stored = a.stored;
         marked = a.marked;
-        careful = λ shown. subst (λ l. AreCareful Sim (inner.stores p) (inner.looks p ++ l)) (log-other p ne) (a.careful (shown-same s s1 p rest-regs rest-pages shown));
+        careful = λ shown. subst (λ l. AreCareful Sim (inner.stores p) (inner.looks p ++ l)) (log-other p ne)
+            (a.careful (shown-same s s1 p rest-regs rest-pages shown));
       }
 
   are : (p : ℕ) → k ≤ p → p < k + suc m → AreTimed s p (looks p) (stores p) (marks p) (get_or pages (2 * p) [])
   unfolding looks stores marks
   are p le less = by (cases_eq p k)
     where
-      by : (p ≡ k) ⊎ (p ≢ k) → AreTimed s p (if p == k then first.viewed.watched.news else inner.looks p) (if p == k then last.stores else inner.stores p) (if p == k then last.marks else inner.marks p) (get_or pages (2 * p) [])
-      by (inl e) = subst (λ b. AreTimed s p (if b then first.viewed.watched.news else inner.looks p) (if b then last.stores else inner.stores p) (if b then last.marks else inner.marks p) (get_or pages (2 * p) [])) (sym (same-true p k e))
-          (subst (λ q. AreTimed s q first.viewed.watched.news last.stores last.marks (get_or pages (2 * q) [])) (sym e) are-here)
-      by (inr ne) = subst (λ b. AreTimed s p (if b then first.viewed.watched.news else inner.looks p) (if b then last.stores else inner.stores p) (if b then last.marks else inner.marks p) (get_or pages (2 * p) [])) (sym (other-false p k ne))
+      by : (p ≡ k) ⊎ (p ≢ k) → AreTimed s p (if p == k then first.viewed.watched.news else inner.looks p)
+          (if p == k then last.stores else inner.stores p) (if p == k then last.marks else inner.marks p)
+          (get_or pages (2 * p) [])
+      by (inl e) =
+          subst (λ b. AreTimed s p (if b then first.viewed.watched.news else inner.looks p)
+          (if b then last.stores else inner.stores p) (if b then last.marks else inner.marks p)
+          (get_or pages (2 * p) [])) (sym (same-true p k e))
+          (subst (λ q. AreTimed s q first.viewed.watched.news last.stores last.marks (get_or pages (2 * q) []))
+          (sym e) are-here)
+      by (inr ne) =
+          subst (λ b. AreTimed s p (if b then first.viewed.watched.news else inner.looks p)
+          (if b then last.stores else inner.stores p) (if b then last.marks else inner.marks p)
+          (get_or pages (2 * p) [])) (sym (other-false p k ne))
           (are-other p ne (omega (arith, le, ne)) (omega (arith, less)))
 
   abbrev HasLogs : ℕ → Bool → Type 0
-  HasLogs q b = get_or (set pages2 (2 * k) log3) (2 * q) [] ≡ (if b then last.marks else inner.marks q) ++ ((if b then last.stores else inner.stores q) ++ ((if b then first.viewed.watched.news else inner.looks q) ++ get_or pages (2 * q) []))
+  HasLogs q b =
+      get_or (set pages2 (2 * k) log3) (2 * q) []
+      ≡ (if b then last.marks else inner.marks q)
+      ++ ((if b then last.stores else inner.stores q)
+      ++ ((if b then first.viewed.watched.news else inner.looks q) ++ get_or pages (2 * q) []))
 
-  logs : (p : ℕ) → k ≤ p → p < k + suc m → get_or (set pages2 (2 * k) log3) (2 * p) [] ≡ marks p ++ (stores p ++ (looks p ++ get_or pages (2 * p) []))
+  logs : (p : ℕ) → k ≤ p → p < k + suc m
+      → get_or (set pages2 (2 * k) log3) (2 * p) [] ≡ marks p ++ (stores p ++ (looks p ++ get_or pages (2 * p) []))
   unfolding looks stores marks pages1
   logs p le less = by (cases_eq p k)
     where
       by : (p ≡ k) ⊎ (p ≢ k) → HasLogs p (p == k)
       by (inl e) = subst (HasLogs p) (sym (same-true p k e)) (subst (λ q. HasLogs q true) (sym e)
-          (get_or-set_same pages2 (2 * k) log3 [] (omega (arith, inner.size, length-set pages (2 * k) log1, below)) ∙ last.page ∙ ap (λ l. last.marks ++ (last.stores ++ l)) log-here))
+          (get_or-set_same pages2 (2 * k) log3 [] (omega (arith, inner.size, length-set pages (2 * k) log1, below))
+          ∙ last.page ∙ ap (λ l. last.marks ++ (last.stores ++ l)) log-here))
       by (inr ne) = subst (HasLogs p) (sym (other-false p k ne))
-          (get_or-set_other pages2 (2 * k) (2 * p) log3 [] (apart p ne) ∙ inner.logs p (omega (arith, le, ne)) (omega (arith, less)) ∙ ap (λ l. inner.marks p ++ (inner.stores p ++ (inner.looks p ++ l))) (log-other p ne))
+          (get_or-set_other pages2 (2 * k) (2 * p) log3 [] (apart p ne)
+          ∙ inner.logs p (omega (arith, le, ne)) (omega (arith, less))
+          ∙ ap (λ l. inner.marks p ++ (inner.stores p ++ (inner.looks p ++ l))) (log-other p ne))
 
   looks-here : looks k ≡ first.viewed.watched.news
   unfolding looks
@@ -229,15 +285,19 @@ module _ (s s1 s2 s3 : State) (k m : ℕ) (pages pages2 : List (List Access)) (l
 
   looks-other : (p : ℕ) → suc k ≤ p → inner.looks p ≡ looks p
   unfolding looks
-  looks-other p le = sym (ap (λ b. if b then first.viewed.watched.news else inner.looks p) (other-false p k (λ e. omega (arith, e, le))))
+  looks-other p le =
+      sym (ap (λ b. if b then first.viewed.watched.news else inner.looks p)
+      (other-false p k (λ e. omega (arith, e, le))))
 
   stores-other : (p : ℕ) → suc k ≤ p → inner.stores p ≡ stores p
   unfolding stores
-  stores-other p le = sym (ap (λ b. if b then last.stores else inner.stores p) (other-false p k (λ e. omega (arith, e, le))))
+  stores-other p le =
+      sym (ap (λ b. if b then last.stores else inner.stores p) (other-false p k (λ e. omega (arith, e, le))))
 
   marks-other : (p : ℕ) → suc k ≤ p → inner.marks p ≡ marks p
   unfolding marks
-  marks-other p le = sym (ap (λ b. if b then last.marks else inner.marks p) (other-false p k (λ e. omega (arith, e, le))))
+  marks-other p le =
+      sym (ap (λ b. if b then last.marks else inner.marks p) (other-false p k (λ e. omega (arith, e, le))))
 
   e1 : List Event
   e1 = explained s k Sim first.viewed.watched.news (get_or pages (2 * k) [])
@@ -247,25 +307,41 @@ module _ (s s1 s2 s3 : State) (k m : ℕ) (pages pages2 : List (List Access)) (l
 
   looked : looked_from s pages looks k (suc m) ≡ e1 ++ looked_from s1 pages1 inner.looks (suc k) m
   unfolding e1
-  looked = (λ i. explained s k Sim (looks-here i) (get_or pages (2 * k) []) ++ sym (looked-cong m (suc k) s s1 pages pages1 looks inner.looks number1 (λ p le. log-other p (λ e. omega (arith, e, le))) looks-other) i)
+  looked = (λ i. explained s k Sim (looks-here i) (get_or pages (2 * k) [])
+      ++ sym (looked-cong m (suc k) s s1 pages pages1 looks inner.looks number1
+      (λ p le. log-other p (λ e. omega (arith, e, le))) looks-other) i)
 
-  marked : marked_from s pages looks stores marks k (suc m) ≡ marked_from s1 pages1 inner.looks inner.stores inner.marks (suc k) m ++ m1
+  marked : marked_from s pages looks stores marks k (suc m)
+      ≡ marked_from s1 pages1 inner.looks inner.stores inner.marks (suc k) m ++ m1
   unfolding m1
   marked =
-      let here = (λ i. explained_after s k (marks-here i) (stores-here i ++ (looks-here i ++ get_or pages (2 * k) []))) ∙ ap (λ l. explained_after s k last.marks (last.stores ++ l)) (sym log-here)
+      let here = (λ i. explained_after s k (marks-here i)
+      (stores-here i ++ (looks-here i ++ get_or pages (2 * k) [])))
+      ∙ ap (λ l. explained_after s k last.marks (last.stores ++ l)) (sym log-here)
       ∙ sym (same-after s s2 k last.marks (last.stores ++ get_or pages2 (2 * k) []) number2) in
-      (λ i. sym (marked-cong m (suc k) s s1 pages pages1 looks inner.looks stores inner.stores marks inner.marks number1 (λ p le. log-other p (λ e. omega (arith, e, le))) looks-other stores-other marks-other) i ++ here i)
+      (λ i. sym (marked-cong m
+      (suc k) s s1 pages pages1 looks inner.looks stores inner.stores marks inner.marks number1
+      (λ p le. log-other p (λ e. omega (arith, e, le))) looks-other stores-other marks-other) i ++ here i)
 
   run : run_of s (looked_from s pages looks k (suc m) ++ event ∷ marked_from s pages looks stores marks k (suc m))
-      ≡ (s3, all_done (looked_from s pages looks k (suc m)) ++ reply ∷ all_done (marked_from s pages looks stores marks k (suc m)), (first.emitted ++ inner.emitted) ++ late3)
+      ≡ (
+        s3,
+        all_done (looked_from s pages looks k (suc m))
+            ++ reply ∷ all_done (marked_from s pages looks stores marks k (suc m)),
+        (first.emitted ++ inner.emitted) ++ late3,
+      )
   unfolding e1 m1 pages1
   run =
       let le : List Event = looked_from s1 pages1 inner.looks (suc k) m in
       let me : List Event = marked_from s1 pages1 inner.looks inner.stores inner.marks (suc k) m in
-      let notices : (first.emitted ++ ((inner.emitted ++ late2) ++ last.emitted)) ≡ (first.emitted ++ inner.emitted) ++ late3 =
-      ap (λ l. first.emitted ++ l) (append_assoc inner.emitted late2 last.emitted) ∙ sym (append_assoc first.emitted inner.emitted (late2 ++ last.emitted)) ∙ ap (λ l. (first.emitted ++ inner.emitted) ++ l) (sym last.notices) in
+      let notices : (first.emitted ++ ((inner.emitted ++ late2) ++ last.emitted))
+      ≡ (first.emitted ++ inner.emitted) ++ late3 =
+      ap (λ l. first.emitted ++ l) (append_assoc inner.emitted late2 last.emitted)
+      ∙ sym (append_assoc first.emitted inner.emitted (late2 ++ last.emitted))
+      ∙ ap (λ l. (first.emitted ++ inner.emitted) ++ l) (sym last.notices) in
       (λ i. run_of s (looked i ++ event ∷ marked i))
-      ∙ run-three s s1 s2 s3 e1 le me m1 event reply first.emitted (inner.emitted ++ late2) last.emitted first.viewed.watched.run inner.run last.run
+      ∙ run-three s s1 s2 s3 e1 le me m1 event reply first.emitted
+      (inner.emitted ++ late2) last.emitted first.viewed.watched.run inner.run last.run
       ∙ (λ i. (s3, all_done (sym looked i) ++ reply ∷ all_done (sym marked i), notices i))
 
   shadow : (p : ℕ) → k ≤ p → p < k + suc m → IsShadow s3 (2 * p) (get_or (set pages2 (2 * k) log3) (2 * p) [])
@@ -273,9 +349,12 @@ module _ (s s1 s2 s3 : State) (k m : ℕ) (pages pages2 : List (List Access)) (l
     where
       by : (p ≡ k) ⊎ (p ≢ k) → IsShadow s3 (2 * p) (get_or (set pages2 (2 * k) log3) (2 * p) [])
       by (inl e) = subst (λ q. IsShadow s3 (2 * q) (get_or (set pages2 (2 * k) log3) (2 * q) [])) (sym e)
-          (subst (IsShadow s3 (2 * k)) (sym (get_or-set_same pages2 (2 * k) log3 [] (omega (arith, inner.size, length-set pages (2 * k) log1, below)))) last.shadow)
+          (subst (IsShadow s3 (2 * k))
+          (sym (get_or-set_same pages2 (2 * k) log3 []
+          (omega (arith, inner.size, length-set pages (2 * k) log1, below)))) last.shadow)
       by (inr ne) = subst (IsShadow s3 (2 * p)) (sym (get_or-set_other pages2 (2 * k) (2 * p) log3 [] (apart p ne)))
-          (λ x low. inner.shadow p (omega (arith, le, ne)) (omega (arith, less)) x low ∙ sym (last.others (2 * p) x low (apart p ne)))
+          (λ x low. inner.shadow p (omega (arith, le, ne)) (omega (arith, less)) x low
+          ∙ sym (last.others (2 * p) x low (apart p ne)))
 
   slots : (p i : ℕ) → p < k → i < 16 → is_slot_empty s p i ≡ false → SlotGrows s p i s3
   slots p i less under full =
@@ -290,57 +369,79 @@ module _ (s s1 s2 s3 : State) (k m : ℕ) (pages pages2 : List (List Access)) (l
       let a = slot-same s s1 p i (first.viewed.watched.same (2 * p) other) in
       let c = last.same (2 * p) other in
       fills-trans s s2 s3 p i empty
-      (fills-trans s s1 s2 p i empty (fills-same s s1 p i (first.viewed.watched.same (2 * p) other)) (inner.fills p i (omega (arith, less)) under) (inner.slots p i (omega (arith, less)) under))
+      (fills-trans s s1 s2 p i empty (fills-same s s1 p i (first.viewed.watched.same (2 * p) other))
+      (inner.fills p i (omega (arith, less)) under) (inner.slots p i (omega (arith, less)) under))
       (λ _. fills-same s2 s3 p i c) (λ _. slot-same s2 s3 p i c)
 
   owes : (p : ℕ) → k ≤ p → p < k + suc m → get_or (set owed k owe) p false ≡ finds_empty (marks p)
   unfolding marks
   owes p le less = by (cases_eq p k)
     where
-      by : (p ≡ k) ⊎ (p ≢ k) → get_or (set owed k owe) p false ≡ finds_empty (if p == k then last.marks else inner.marks p)
-      by (inl e) = ap (λ q. get_or (set owed k owe) q false) e ∙ get_or-set_same owed k owe false (omega (arith, inner.eight, few)) ∙ last.owes ∙ ap (λ b. finds_empty (if b then last.marks else inner.marks p)) (sym (same-true p k e))
-      by (inr ne) = get_or-set_other owed k p owe false ne ∙ inner.owes p (omega (arith, le, ne)) (omega (arith, less)) ∙ ap (λ b. finds_empty (if b then last.marks else inner.marks p)) (sym (other-false p k ne))
+      by : (p ≡ k) ⊎ (p ≢ k) → get_or (set owed k owe) p false
+          ≡ finds_empty (if p == k then last.marks else inner.marks p)
+      by (inl e) =
+          ap (λ q. get_or (set owed k owe) q false) e
+          ∙ get_or-set_same owed k owe false (omega (arith, inner.eight, few)) ∙ last.owes
+          ∙ ap (λ b. finds_empty (if b then last.marks else inner.marks p)) (sym (same-true p k e))
+      by (inr ne) =
+          get_or-set_other owed k p owe false ne ∙ inner.owes p (omega (arith, le, ne)) (omega (arith, less))
+          ∙ ap (λ b. finds_empty (if b then last.marks else inner.marks p)) (sym (other-false p k ne))
 
   unowed : (p : ℕ) → p < k → get_or (set owed k owe) p false ≡ false
-  unowed p less = get_or-set_other owed k p owe false (λ e. omega (arith, e, less)) ∙ inner.unowed p (omega (arith, less))
+  unowed p less =
+      get_or-set_other owed k p owe false (λ e. omega (arith, e, less)) ∙ inner.unowed p (omega (arith, less))
 
   still : (p : ℕ) → p < k → AreDirectAt s p event → get_or s3.own (2 * p) [] ≡ get_or s.own (2 * p) []
   still p less direct =
       let other : 2 * p ≢ 2 * k = λ e. omega (arith, e, less) in
-      last.same (2 * p) other ∙ inner.still p (omega (arith, less)) (rest-due s s1 p event first.viewed.watched.rest direct) ∙ first.viewed.watched.same (2 * p) other
+      last.same (2 * p) other ∙ inner.still p (omega (arith, less))
+      (rest-due s s1 p event first.viewed.watched.rest direct) ∙ first.viewed.watched.same (2 * p) other
 
   direct : (p : ℕ) → k ≤ p → p < k + suc m → AreDirectAt s p event → (stores p ≡ []) × (marks p ≡ [])
   unfolding stores marks
   direct p le less at = by (cases_eq p k)
     where
-      by : (p ≡ k) ⊎ (p ≢ k) → ((if p == k then last.stores else inner.stores p) ≡ []) × ((if p == k then last.marks else inner.marks p) ≡ [])
+      by : (p ≡ k) ⊎ (p ≢ k) → ((if p == k then last.stores else inner.stores p) ≡ [])
+          × ((if p == k then last.marks else inner.marks p) ≡ [])
       by (inl e) =
           let none = quiet (subst (λ q. AreDirectAt s q event) e at) in
-          subst (λ b. ((if b then last.stores else inner.stores p) ≡ []) × ((if b then last.marks else inner.marks p) ≡ [])) (sym (same-true p k e)) none
+          subst (λ b. ((if b then last.stores else inner.stores p) ≡ [])
+          × ((if b then last.marks else inner.marks p) ≡ [])) (sym (same-true p k e)) none
       by (inr ne) =
-          let none = inner.direct p (omega (arith, le, ne)) (omega (arith, less)) (rest-due s s1 p event first.viewed.watched.rest at) in
-          subst (λ b. ((if b then last.stores else inner.stores p) ≡ []) × ((if b then last.marks else inner.marks p) ≡ [])) (sym (other-false p k ne)) none
+          let none = inner.direct p (omega (arith, le, ne)) (omega (arith, less))
+          (rest-due s s1 p event first.viewed.watched.rest at) in
+          subst (λ b. ((if b then last.stores else inner.stores p) ≡ [])
+          × ((if b then last.marks else inner.marks p) ≡ [])) (sym (other-false p k ne)) none
 
-  pub tick-step : IsTickFrom s k (suc m) pages event s3 (set pages2 (2 * k) log3) reply (set owed k owe) before after late3
+  pub tick-step : IsTickFrom s k (suc m) pages event s3 (set pages2 (2 * k) log3) reply
+      (set owed k owe) before after late3
   tick-step = record {
     looks = looks;
     stores = stores;
     marks = marks;
     emitted = first.emitted ++ inner.emitted;
-    notices = inner.notices ∙ ap (λ ns. ns ++ inner.emitted) first.notices ∙ append_assoc before first.emitted inner.emitted;
+    notices = inner.notices ∙ ap (λ ns. ns ++ inner.emitted) first.notices
+        ∙ append_assoc before first.emitted inner.emitted;
     few = omega (arith, inner.few, last.few, ap length last.notices, length-append late2 last.emitted);
     are = are;
     logs = logs;
-    lower = λ p less. (let other : 2 * p ≢ 2 * k = λ e. omega (arith, e, less) in get_or-set_other pages2 (2 * k) (2 * p) log3 [] other ∙ inner.lower p (omega (arith, less)) ∙ get_or-set_other pages (2 * k) (2 * p) log1 [] other);
-    flags = λ p. (let other : 2 * p + 1 ≢ 2 * k = λ e. omega (arith, e) in get_or-set_other pages2 (2 * k) (2 * p + 1) log3 [] other ∙ inner.flags p ∙ get_or-set_other pages (2 * k) (2 * p + 1) log1 [] other);
+    lower = λ p less. (let other : 2 * p ≢ 2 * k = λ e. omega (arith, e, less) in
+        get_or-set_other pages2 (2 * k) (2 * p) log3 [] other ∙ inner.lower p (omega (arith, less))
+        ∙ get_or-set_other pages (2 * k) (2 * p) log1 [] other);
+    flags = λ p. (let other : 2 * p + 1 ≢ 2 * k = λ e. omega (arith, e) in
+        get_or-set_other pages2 (2 * k) (2 * p + 1) log3 [] other ∙ inner.flags p
+        ∙ get_or-set_other pages (2 * k) (2 * p + 1) log1 [] other);
     size = length-set pages2 (2 * k) log3 ∙ inner.size ∙ length-set pages (2 * k) log1;
     run = run;
     shadow = shadow;
     regs = ap (λ (t : State). t.regs) last.rest ∙ inner.regs ∙ rest-regs;
     guest = ap (λ (t : State). t.pages) last.rest ∙ inner.guest ∙ rest-pages;
     count = last.count ∙ inner.count ∙ first.viewed.watched.count;
-    processors = ap (λ (t : State). length t.apics) last.rest ∙ inner.processors ∙ ap (λ (t : State). length t.apics) first.viewed.watched.rest;
-    odd = λ p x low. (let other : 2 * p + 1 ≢ 2 * k = λ e. omega (arith, e) in last.others (2 * p + 1) x low other ∙ inner.odd p x low ∙ first.viewed.watched.others (2 * p + 1) x low other);
+    processors =
+        ap (λ (t : State). length t.apics) last.rest ∙ inner.processors
+        ∙ ap (λ (t : State). length t.apics) first.viewed.watched.rest;
+    odd = λ p x low. (let other : 2 * p + 1 ≢ 2 * k = λ e. omega (arith, e) in
+        last.others (2 * p + 1) x low other ∙ inner.odd p x low ∙ first.viewed.watched.others (2 * p + 1) x low other);
     slots = slots;
     fills = fills;
     eight = length-set owed k owe ∙ inner.eight;
@@ -351,44 +452,71 @@ module _ (s s1 s2 s3 : State) (k m : ℕ) (pages pages2 : List (List Access)) (l
   }
 
 -- the same, with the numbers and pages of a call
-pub tick-step-at : (s s1 s2 s3 : State) (k m total v i j : ℕ) (pages pages2 : List (List Access)) (page1 page2 log1 log3 : List Access) (event : Event) (reply : Reply) (owed : List Bool) (owe : Bool) (before between after late2 late3 : List Notice)
-    → v ≡ k → i ≡ 2 * k → j ≡ k → page1 ≡ get_or pages (2 * k) [] → page2 ≡ get_or pages2 (2 * k) [] → total ≡ suc m → 2 * k < length pages → k < 8
-    → (AreDirectAt s v event → ⊥) → IsFirst s v page1 s1 log1 before between → IsTickFrom s1 (k + 1) m (set pages i log1) event s2 pages2 reply owed between after late2 → IsFinished s2 v page2 s3 log3 owe late2 late3
+pub tick-step-at : (s s1 s2 s3 : State) (k m total v i j : ℕ) (pages pages2 : List (List Access))
+    (page1 page2 log1 log3 : List Access) (event : Event) (reply : Reply) (owed : List Bool) (owe : Bool)
+    (before between after late2 late3 : List Notice)
+    → v ≡ k → i ≡ 2 * k → j ≡ k → page1 ≡ get_or pages (2 * k) [] → page2 ≡ get_or pages2 (2 * k) [] → total ≡ suc m
+    → 2 * k < length pages → k < 8
+    → (AreDirectAt s v event → ⊥) → IsFirst s v page1 s1 log1 before between
+    → IsTickFrom s1 (k + 1) m (set pages i log1) event s2 pages2 reply owed between after late2
+    → IsFinished s2 v page2 s3 log3 owe late2 late3
     → IsTickFrom s k total pages event s3 (set pages2 i log3) reply (set owed j owe) before after late3
-tick-step-at s s1 s2 s3 k m total v i j pages pages2 page1 page2 log1 log3 event reply owed owe before between after late2 late3 a b c d e f below few posted first inner last =
-    let first-at = subst (λ q. IsFirst s q (get_or pages (2 * k) []) s1 log1 before between) a (subst (λ l. IsFirst s v l s1 log1 before between) d first) in
-    let inner-at = subst (λ n. IsTickFrom s1 n m (set pages (2 * k) log1) event s2 pages2 reply owed between after late2) (let one : k + 1 ≡ suc k = omega arith in one)
+tick-step-at s s1 s2 s3 k m total v i j pages pages2 page1 page2 log1 log3 event reply owed owe before between after
+    late2 late3 a b c d e f below few posted first inner last =
+    let first-at =
+    subst (λ q. IsFirst s q (get_or pages (2 * k) []) s1 log1 before between) a
+    (subst (λ l. IsFirst s v l s1 log1 before between) d first) in
+    let inner-at =
+    subst (λ n. IsTickFrom s1 n m (set pages (2 * k) log1) event s2 pages2 reply owed between after late2)
+    (let one : k + 1 ≡ suc k = omega arith in one)
     (subst (λ n. IsTickFrom s1 (k + 1) m (set pages n log1) event s2 pages2 reply owed between after late2) b inner) in
-    let last-at = subst (λ q. IsFinished s2 q (get_or pages2 (2 * k) []) s3 log3 owe late2 late3) a (subst (λ l. IsFinished s2 v l s3 log3 owe late2 late3) e last) in
+    let last-at =
+    subst (λ q. IsFinished s2 q (get_or pages2 (2 * k) []) s3 log3 owe late2 late3) a
+    (subst (λ l. IsFinished s2 v l s3 log3 owe late2 late3) e last) in
     subst (λ n. IsTickFrom s k n pages event s3 (set pages2 i log3) reply (set owed j owe) before after late3) (sym f)
-    (subst (λ n. IsTickFrom s k (suc m) pages event s3 (set pages2 n log3) reply (set owed j owe) before after late3) (sym b)
-    (subst (λ n. IsTickFrom s k (suc m) pages event s3 (set pages2 (2 * k) log3) reply (set owed n owe) before after late3) (sym c)
-    (tick-step s s1 s2 s3 k m pages pages2 log1 log3 event reply owed owe before between after late2 late3 below few first-at inner-at last-at (λ at. absurd (posted (subst (λ q. AreDirectAt s q event) (sym a) at))))))
+    (subst (λ n. IsTickFrom s k (suc m) pages event s3 (set pages2 n log3) reply (set owed j owe) before after late3)
+    (sym b)
+    (subst (λ n. IsTickFrom s k (suc m) pages event s3 (set pages2 (2 * k) log3) reply
+    (set owed n owe) before after late3) (sym c)
+    (tick-step s s1 s2 s3 k m pages pages2 log1 log3 event reply owed owe before between after late2 late3 below few
+    first-at inner-at last-at (λ at. absurd (posted (subst (λ q. AreDirectAt s q event) (sym a) at))))))
 
 -- one page more, at which the event stores and marks nothing
-pub tick-skip : (s s1 s2 : State) (k m total v i : ℕ) (pages pages2 : List (List Access)) (page1 log1 : List Access) (event : Event) (reply : Reply) (owed : List Bool) (before between after late : List Notice)
+pub tick-skip : (s s1 s2 : State) (k m total v i : ℕ) (pages pages2 : List (List Access)) (page1 log1 : List Access)
+    (event : Event) (reply : Reply) (owed : List Bool) (before between after late : List Notice)
     → v ≡ k → i ≡ 2 * k → page1 ≡ get_or pages (2 * k) [] → total ≡ suc m → 2 * k < length pages → k < 8
-    → AreDirectAt s v event → IsFirst s v page1 s1 log1 before between → IsTickFrom s1 (k + 1) m (set pages i log1) event s2 pages2 reply owed between after late
+    → AreDirectAt s v event → IsFirst s v page1 s1 log1 before between
+    → IsTickFrom s1 (k + 1) m (set pages i log1) event s2 pages2 reply owed between after late
     → IsTickFrom s k total pages event s2 pages2 reply owed before after late
-tick-skip s s1 s2 k m total v i pages pages2 page1 log1 event reply owed before between after late a b d f below few direct first inner =
+tick-skip s s1 s2 k m total v i pages pages2 page1 log1 event reply owed before between after late a b d f below few
+    direct first inner =
     subst (λ n. IsTickFrom s k n pages event s2 pages2 reply owed before after late) (sym f)
     (subst (λ bs. IsTickFrom s k (suc m) pages event s2 pages2 reply bs before after late) unowed
-    (subst (λ ps. IsTickFrom s k (suc m) pages event s2 ps reply (set owed k false) before after late) (set-get_or pages2 (2 * k) [])
-    (tick-step s s1 s2 s2 k m pages pages2 log1 (get_or pages2 (2 * k) []) event reply owed false before between after late late below few first-at inner-at none.0 (λ _. (none.1, none.2)))))
+    (subst (λ ps. IsTickFrom s k (suc m) pages event s2 ps reply (set owed k false) before after late)
+    (set-get_or pages2 (2 * k) [])
+    (tick-step s s1 s2 s2 k m pages pages2 log1
+    (get_or pages2 (2 * k) []) event reply owed false before between after late late below few first-at inner-at
+    none.0 (λ _. (none.1, none.2)))))
   where
     first-at : IsFirst s k (get_or pages (2 * k) []) s1 log1 before between
-    first-at = subst (λ q. IsFirst s q (get_or pages (2 * k) []) s1 log1 before between) a (subst (λ l. IsFirst s v l s1 log1 before between) d first)
+    first-at = subst (λ q. IsFirst s q (get_or pages (2 * k) []) s1 log1 before between) a
+        (subst (λ l. IsFirst s v l s1 log1 before between) d first)
 
     inner-at : IsTickFrom s1 (suc k) m (set pages (2 * k) log1) event s2 pages2 reply owed between after late
-    inner-at = subst (λ n. IsTickFrom s1 n m (set pages (2 * k) log1) event s2 pages2 reply owed between after late) (let one : k + 1 ≡ suc k = omega arith in one)
+    inner-at = subst (λ n. IsTickFrom s1 n m (set pages (2 * k) log1) event s2 pages2 reply owed between after late)
+        (let one : k + 1 ≡ suc k = omega arith in one)
         (subst (λ n. IsTickFrom s1 (k + 1) m (set pages n log1) event s2 pages2 reply owed between after late) b inner)
 
     shadow : IsShadow s2 (2 * k) (get_or pages2 (2 * k) [])
     shadow x low =
-        ap (λ l. known l x) (inner-at.lower k (omega arith) ∙ get_or-set_same pages (2 * k) log1 [] below) ∙ first-at.viewed.shadow x low
-        ∙ ap (λ l. word_at l (8 * x)) (sym (inner-at.still k (omega arith) (rest-due s s1 k event first-at.viewed.watched.rest (subst (λ q. AreDirectAt s q event) a direct))))
+        ap (λ l. known l x) (inner-at.lower k (omega arith) ∙ get_or-set_same pages (2 * k) log1 [] below)
+        ∙ first-at.viewed.shadow x low
+        ∙ ap (λ l. word_at l (8 * x))
+        (sym (inner-at.still k (omega arith)
+        (rest-due s s1 k event first-at.viewed.watched.rest (subst (λ q. AreDirectAt s q event) a direct))))
 
-    none : (one : IsFinished s2 k (get_or pages2 (2 * k) []) s2 (get_or pages2 (2 * k) []) false late late) × (one.stores ≡ []) × (one.marks ≡ [])
+    none : (one : IsFinished s2 k (get_or pages2 (2 * k) []) s2 (get_or pages2 (2 * k) []) false late late)
+        × (one.stores ≡ []) × (one.marks ≡ [])
     none = finished-none s2 k (get_or pages2 (2 * k) []) late shadow
 
     unowed : set owed k false ≡ owed

@@ -24,14 +24,20 @@ apart : (x h : ℕ) → x ≢ h → (x == h) ≡ false
 apart x h e = grind (arith, nat_tests)
 
 -- a look shows what is passed
-pub look-shows : (s : State) (p : ℕ) (k : Kind) (w found : ℕ) (log : List Access) → known log w ≡ word_of s (overlay_of p k) w → explained s p k (Load w found ∷ []) log ≡ found_stores s p k w found
+pub look-shows : (s : State) (p : ℕ) (k : Kind) (w found : ℕ) (log : List Access)
+    → known log w ≡ word_of s (overlay_of p k) w → explained s p k (Load w found ∷ []) log ≡ found_stores s p k w found
 look-shows s p k w found log is = ap (λ n. if found == n then [] else store_of s p k w found ∷ []) is
 
-mark-shows : (s : State) (p : ℕ) (k : Kind) (w mask found : ℕ) (log : List Access) → known log w ≡ word_of s (overlay_of p k) w → explained s p k (FetchOr w mask found ∷ []) log ≡ found_stores s p k w found
+mark-shows : (s : State) (p : ℕ) (k : Kind) (w mask found : ℕ) (log : List Access)
+    → known log w ≡ word_of s (overlay_of p k) w
+    → explained s p k (FetchOr w mask found ∷ []) log ≡ found_stores s p k w found
 mark-shows s p k w mask found log is = ap (λ n. if found == n then [] else store_of s p k w found ∷ []) is
 
-watched-by : (s : State) (p : ℕ) (k : Kind) (w found : ℕ) (log now-log news : List Access) (now : State) (notices : List Notice) → explained s p k news log ≡ found_stores s p k w found → AreCareful k news log → now-log ≡ news ++ log
-    → IsPassed s p k w found now notices → HasWord s (overlay_of p k) w found now → IsWatched s p k log now now-log notices
+watched-by : (s : State) (p : ℕ) (k : Kind) (w found : ℕ) (log now-log news : List Access) (now : State)
+    (notices : List Notice) → explained s p k news log ≡ found_stores s p k w found → AreCareful k news log
+    → now-log ≡ news ++ log
+    → IsPassed s p k w found now notices → HasWord s (overlay_of p k) w found now
+    → IsWatched s p k log now now-log notices
 watched-by s p k w found log now-log news now notices shows careful page passed word = record {
   news = news;
   page = page;
@@ -43,7 +49,8 @@ watched-by s p k w found log now-log news now notices shows careful page passed 
   same = word.same;
 }
 
-pub look-is : (s : State) (p : ℕ) (k : Kind) (w found : ℕ) (log log-now : List Access) (now : State) (before after : List Notice) → known log w ≡ word_of s (overlay_of p k) w → log-now ≡ Load w found ∷ log
+pub look-is : (s : State) (p : ℕ) (k : Kind) (w found : ℕ) (log log-now : List Access) (now : State)
+    (before after : List Notice) → known log w ≡ word_of s (overlay_of p k) w → log-now ≡ Load w found ∷ log
     → IsPassedOn s p k w found now before after → IsLook s p k w log now log-now found before after
 unfolding watched-by
 look-is s p k w found log log-now now before after is page on = record {
@@ -51,7 +58,8 @@ look-is s p k w found log log-now now before after is page on = record {
   notices = on.notices;
   few = on.few;
   page = page;
-  watched = watched-by s p k w found log log-now (Load w found ∷ []) now on.emitted (look-shows s p k w found log is) tt page on.passed on.word;
+  watched = watched-by s p k w found log log-now (Load w found ∷ []) now on.emitted
+      (look-shows s p k w found log is) tt page on.passed on.word;
   news = refl;
   word = on.word;
   here = here;
@@ -65,11 +73,14 @@ look-is s p k w found log log-now now before after is page on = record {
     others : (x : ℕ) → x ≢ w → known log-now x ≡ known log x
     others x other = ap (λ l. known l x) page ∙ rw (apart x w other) refl
 
-    by : IsShadow s (overlay_of p k) log → (x : ℕ) → x < 512 → (x ≡ w) ⊎ (x ≢ w) → known log-now x ≡ word_of now (overlay_of p k) x
-    by shadow x small (inl e) = ap (known log-now) e ∙ here ∙ sym on.word.here ∙ ap (word_of now (overlay_of p k)) (sym e)
+    by : IsShadow s (overlay_of p k) log → (x : ℕ) → x < 512 → (x ≡ w) ⊎ (x ≢ w)
+        → known log-now x ≡ word_of now (overlay_of p k) x
+    by shadow x small (inl e) =
+        ap (known log-now) e ∙ here ∙ sym on.word.here ∙ ap (word_of now (overlay_of p k)) (sym e)
     by shadow x small (inr ne) = others x ne ∙ shadow x small ∙ sym (on.word.others (overlay_of p k) x (inr ne))
 
-pub mark-is : (s : State) (p : ℕ) (k : Kind) (w mask found : ℕ) (log log-now : List Access) (now : State) (before after : List Notice) → known log w ≡ word_of s (overlay_of p k) w → log-now ≡ FetchOr w mask found ∷ log
+pub mark-is : (s : State) (p : ℕ) (k : Kind) (w mask found : ℕ) (log log-now : List Access) (now : State)
+    (before after : List Notice) → known log w ≡ word_of s (overlay_of p k) w → log-now ≡ FetchOr w mask found ∷ log
     → IsPassedOn s p k w found now before after → IsMark s p k w mask log now log-now found before after
 unfolding watched-by
 mark-is s p k w mask found log log-now now before after is page on = record {
@@ -77,7 +88,8 @@ mark-is s p k w mask found log log-now now before after is page on = record {
   notices = on.notices;
   few = on.few;
   page = page;
-  watched = watched-by s p k w found log log-now (FetchOr w mask found ∷ []) now on.emitted (mark-shows s p k w mask found log is) tt page on.passed on.word;
+  watched = watched-by s p k w found log log-now (FetchOr w mask found ∷ []) now on.emitted
+      (mark-shows s p k w mask found log is) tt page on.passed on.word;
   news = refl;
   word = on.word;
   here = ap (λ l. known l w) page ∙ rw (same w w refl) refl;
@@ -94,7 +106,9 @@ one-is [] x few is = absurd (cc)
 one-is (y ∷ []) x few is = let e : y ≡ x = cc in ap (λ z. z ∷ []) e
 one-is (y ∷ z ∷ xs) x few is = absurd (omega (arith, few))
 
-pub passed-one : (s : State) (p : ℕ) (k : Kind) (w value : ℕ) (now : State) (before after emitted : List Notice) (notice : Notice) → IsPassed s p k w value now emitted → HasWord s (overlay_of p k) w value now × (length emitted ≤ 1)
+pub passed-one : (s : State) (p : ℕ) (k : Kind) (w value : ℕ) (now : State) (before after emitted : List Notice)
+    (notice : Notice) → IsPassed s p k w value now emitted → HasWord s (overlay_of p k) w value now
+    × (length emitted ≤ 1)
     → slice_get emitted 0 ≡ Some notice → after ≡ before ++ notice ∷ [] → IsPassedOn s p k w value now before after
 passed-one s p k w value now before after emitted notice passed word is pushed = record {
   emitted = emitted;
@@ -104,7 +118,8 @@ passed-one s p k w value now before after emitted notice passed word is pushed =
   word = word.0;
 }
 
-pub passed-none : (s : State) (p : ℕ) (k : Kind) (w value : ℕ) (now : State) (before emitted : List Notice) → IsPassed s p k w value now emitted → HasWord s (overlay_of p k) w value now × (length emitted ≤ 1)
+pub passed-none : (s : State) (p : ℕ) (k : Kind) (w value : ℕ) (now : State) (before emitted : List Notice)
+    → IsPassed s p k w value now emitted → HasWord s (overlay_of p k) w value now × (length emitted ≤ 1)
     → slice_get emitted 0 ≡ None → IsPassedOn s p k w value now before before
 passed-none s p k w value now before emitted passed word is = record {
   emitted = emitted;

@@ -52,7 +52,13 @@ pub record IsBeside (s now : State) : Type 0 where
   pub apics : now.apics ≡ s.apics
 
 beside-after : (s mid now : State) → IsBeside s mid → IsBeside mid now → IsBeside s now
-beside-after s mid now a b = record { regs = b.regs ∙ a.regs; queues = b.queues ∙ a.queues; ports = b.ports ∙ a.ports; apics = b.apics ∙ a.apics }
+beside-after s mid now a b =
+    record {
+      regs = b.regs ∙ a.regs;
+      queues = b.queues ∙ a.queues;
+      ports = b.ports ∙ a.ports;
+      apics = b.apics ∙ a.apics;
+    }
 
 beside-store : (s : State) (address : ℕ) (bytes : ArrayVec ℕ) → IsBeside s (step s (Store address bytes)).0
 unfolding step
@@ -61,19 +67,28 @@ beside-store s address bytes = by (refusal_of (space_of s) address (length bytes
     t : State
     t = with_bytes s address bytes.items
 
-    by : (o : Option Refusal) → IsBeside s (option_map_or (refused s) o (answered Done (consumed_in t (owner_of (space_of s) (address / 4096))))).0
+    by : (o : Option Refusal)
+        → IsBeside s (option_map_or (refused s) o
+        (answered Done (consumed_in t (owner_of (space_of s) (address / 4096))))).0
     by (Some r) = record { regs = refl; queues = refl; ports = refl; apics = refl }
     by None =
         let is = still-in t (owner_of (space_of s) (address / 4096)) in
-        record { regs = ap (λ (x : State). x.regs) is; queues = ap (λ (x : State). x.queues) is; ports = ap (λ (x : State). x.ports) is; apics = ap (λ (x : State). x.apics) is }
+        record {
+          regs = ap (λ (x : State). x.regs) is;
+          queues = ap (λ (x : State). x.queues) is;
+          ports = ap (λ (x : State). x.ports) is;
+          apics = ap (λ (x : State). x.apics) is;
+        }
 
-pub beside-run : (t : State) (p : ℕ) (k : Kind) (s : State) (es : List Event) → All (IsOwnStore t p k) es → IsBeside s (run_of s es).0
+pub beside-run : (t : State) (p : ℕ) (k : Kind) (s : State) (es : List Event) → All (IsOwnStore t p k) es
+    → IsBeside s (run_of s es).0
 unfolding run_of
 beside-run t p k s [] h = record { regs = refl; queues = refl; ports = refl; apics = refl }
 beside-run t p k s (e ∷ es) h =
     let one = All-head (IsOwnStore t p k) e es h in
     let first = subst (λ x. IsBeside s (step s x).0) (sym one.2) (beside-store s _ _) in
-    beside-after s (step s e).0 (run_of (step s e).0 es).0 first (beside-run t p k (step s e).0 es (All-tail (IsOwnStore t p k) e es h))
+    beside-after s (step s e).0 (run_of (step s e).0 es).0 first
+    (beside-run t p k (step s e).0 es (All-tail (IsOwnStore t p k) e es h))
 
 -- whether a source waits depends on registers and queues
 pub beside-waiting : (s now : State) (p i : ℕ) → IsBeside s now → is_waiting now p i ≡ is_waiting s p i
@@ -96,14 +111,16 @@ record IsAfter (s : State) (event : Event) (now : State) (reply : Reply) : Type 
   pub state : now ≡ (step mid event).0
   pub answer : reply ≡ (step mid event).1
 
-after-stores : (old now : LiveModel) (event : Event) (reply : Reply) (notices : List Notice) → IsSound old.board.state → IsLive old event now reply notices → IsAfter old.board.state event now.board.state reply
+after-stores : (old now : LiveModel) (event : Event) (reply : Reply) (notices : List Notice) → IsSound old.board.state
+    → IsLive old event now reply notices → IsAfter old.board.state event now.board.state reply
 unfolding run_of
 after-stores old now event reply notices h live = record {
   mid = mid;
   sound = (kept-by s mid es (run_of s es).1 (run_of s es).2 (fits-all s live.vp live.kind es own) h refl).0;
   beside = beside-run s live.vp live.kind s es own;
   state = sym (ap (λ (r : Run). r.0) whole);
-  answer = sym (last-is (all_done es) reply Done) ∙ sym (ap (λ (r : Run). last-or Done r.1) whole) ∙ last-is (run_of s es).1 (step mid event).1 Done;
+  answer = sym (last-is (all_done es) reply Done) ∙ sym (ap (λ (r : Run). last-or Done r.1) whole)
+      ∙ last-is (run_of s es).1 (step mid event).1 Done;
 }
   where
     s : State
@@ -122,9 +139,14 @@ after-stores old now event reply notices h live = record {
     whole = sym (run-append s es (event ∷ [])) ∙ live.run
 
 -- a slot of the board as what the host knows of its header
-pub marked-known : (s : State) (pages : List (List Access)) (p i : ℕ) → HasShape s → HasRanges s → Shadows s pages → p < processors s → i < 16 → IsSeen s p i
-    → (type_of (known (get_or pages (2 * p) []) (header i)) ≢ 0) × (is_pending (known (get_or pages (2 * p) []) (header i)) ≡ true)
-marked-known s pages p i shape ranges shadows on under seen = (λ z. full (sym (ap type_of is ∙ type-is (page_of s p) i bytes) ∙ z), ap is_pending is ∙ ap (λ b. b == 1) bit ∙ seen.pending)
+pub marked-known : (s : State) (pages : List (List Access)) (p i : ℕ) → HasShape s → HasRanges s → Shadows s pages
+    → p < processors s → i < 16 → IsSeen s p i
+    → (type_of (known (get_or pages (2 * p) []) (header i)) ≢ 0)
+    × (is_pending (known (get_or pages (2 * p) []) (header i)) ≡ true)
+marked-known s pages p i shape ranges shadows on under seen = (
+  λ z. full (sym (ap type_of is ∙ type-is (page_of s p) i bytes) ∙ z),
+  ap is_pending is ∙ ap (λ b. b == 1) bit ∙ seen.pending,
+)
   where
     bytes : (b : ℕ) → b < 8 → get_or (page_of s p) (8 * (32 * i) + b) 0 < 256
     bytes = header-bytes s p i shape ranges on under
@@ -136,7 +158,9 @@ marked-known s pages p i shape ranges shadows on under seen = (λ z. full (sym (
     full z = let e = seen.occupied in grind (arith, nat_tests)
 
     bit : bit_at (word_of s (2 * p) (32 * i)) 40 ≡ bit_at (get_or (page_of s p) (256 * i + 5) 0) 0
-    bit = let place : 8 * (32 * i) + 5 ≡ 256 * i + 5 = omega arith in bit-of (page_of s p) (32 * i) 5 0 (omega arith) (omega arith) bytes ∙ ap (λ n. bit_at (get_or (page_of s p) n 0) 0) place
+    bit = let place : 8 * (32 * i) + 5 ≡ 256 * i + 5 = omega arith in
+        bit-of (page_of s p) (32 * i) 5 0 (omega arith) (omega arith) bytes
+        ∙ ap (λ n. bit_at (get_or (page_of s p) n 0) 0) place
 
 -- an access among others
 or-left : (c a b : Bool) → (a ≡ true → b ≡ true) → (c || a) ≡ true → (c || b) ≡ true
@@ -149,7 +173,8 @@ or-right false b e = e
 
 accessed-left : (w : ℕ) (a b : List Access) → is_accessed w a ≡ true → is_accessed w (a ++ b) ≡ true
 accessed-left w [] b e = absurd (cc)
-accessed-left w (x ∷ a) b e = or-left (is_of w x) (is_accessed w a) (is_accessed w (a ++ b)) (λ h. accessed-left w a b h) e
+accessed-left w (x ∷ a) b e =
+    or-left (is_of w x) (is_accessed w a) (is_accessed w (a ++ b)) (λ h. accessed-left w a b h) e
 
 pub accessed-right : (w : ℕ) (a b : List Access) → is_accessed w b ≡ true → is_accessed w (a ++ b) ≡ true
 accessed-right w [] b e = e
@@ -161,22 +186,34 @@ same w = grind (arith, nat_tests)
 -- a probe accesses the header
 probe-accesses : (i : ℕ) (news : List Access) → IsProbe i news → is_accessed (header i) news ≡ true
 probe-accesses i news (found, inl (is, which)) = ap (is_accessed (header i)) is ∙ rw (same (header i)) refl
-probe-accesses i news (found, inr (marked, is, full, clear)) = ap (is_accessed (header i)) is ∙ rw (same (header i)) refl
+probe-accesses i news (found, inr (marked, is, full, clear)) =
+    ap (is_accessed (header i)) is ∙ rw (same (header i)) refl
 
-probes-access : (s : State) (p n i : ℕ) (news : List Access) → i < n → is_waiting s p i ≡ true → AreProbes s p n news → is_accessed (header i) news ≡ true
+probes-access : (s : State) (p n i : ℕ) (news : List Access) → i < n → is_waiting s p i ≡ true → AreProbes s p n news
+    → is_accessed (header i) news ≡ true
 probes-access s p zero i news low waits are = absurd (omega (arith, low))
-probes-access s p (suc n) i news low waits (one, rest, is, first, more) = ap (is_accessed (header i)) is ∙ by (λ less. probes-access s p n i rest less waits more) (cases_eq i n)
+probes-access s p (suc n) i news low waits (one, rest, is, first, more) =
+    ap (is_accessed (header i)) is ∙ by (λ less. probes-access s p n i rest less waits more) (cases_eq i n)
   where
     by : (i < n → is_accessed (header i) rest ≡ true) → (i ≡ n) ⊎ (i ≢ n) → is_accessed (header i) (one ++ rest) ≡ true
-    by later (inl e) = accessed-left (header i) one rest (probe-accesses i one (subst (λ b. ProbesIf b i one) waits (subst (λ k. ProbesIf (is_waiting s p k) k one) (sym e) first)))
+    by later (inl e) =
+        accessed-left (header i) one rest
+        (probe-accesses i one (subst (λ b. ProbesIf b i one) waits
+        (subst (λ k. ProbesIf (is_waiting s p k) k one) (sym e) first)))
     by later (inr ne) = accessed-right (header i) one rest (later (omega (arith, low, ne)))
 
 -- a processor that is on the board stays there
-pub on-after : (mid now : State) (p : ℕ) (event : Event) → PayloadFits event → IsSound mid → now ≡ (step mid event).0 → p < processors mid → p < processors now
-on-after mid now p event fits sound state on = subst (λ n. p < n) (sym (ap processors state ∙ stays mid (step mid event).0 event (step mid event).1 (step mid event).2 fits sound refl)) on
+pub on-after : (mid now : State) (p : ℕ) (event : Event) → PayloadFits event → IsSound mid → now ≡ (step mid event).0
+    → p < processors mid → p < processors now
+on-after mid now p event fits sound state on =
+    subst (λ n. p < n)
+    (sym (ap processors state
+    ∙ stays mid (step mid event).0 event (step mid event).1 (step mid event).2 fits sound refl)) on
 
-pub eom-marked : (old now : LiveModel) (p i number value : ℕ) (reply : Reply) (notices : List Notice) → IsSound old.board.state → HasShape now.board.state → HasRanges now.board.state → Shadows now.board.state now.pages
-    → p < processors old.board.state → i < 16 → register_of number ≡ Some Eom → IsLive old (Write p number value) now reply notices → HasProbedAt p old now → LeavesMarked p i old now
+pub eom-marked : (old now : LiveModel) (p i number value : ℕ) (reply : Reply) (notices : List Notice)
+    → IsSound old.board.state → HasShape now.board.state → HasRanges now.board.state → Shadows now.board.state now.pages
+    → p < processors old.board.state → i < 16 → register_of number ≡ Some Eom
+    → IsLive old (Write p number value) now reply notices → HasProbedAt p old now → LeavesMarked p i old now
 eom-marked old now p i number value reply notices sound shape ranges shadows on under eom live probed shown waits =
     let s : State = old.board.state in
     let a = after-stores old now (Write p number value) reply notices sound live in
@@ -185,7 +222,8 @@ eom-marked old now p i number value reply notices sound shape ranges shadows on 
     let waits-step = subst (λ t. is_waiting t p i ≡ true) a.state waits in
     let seen = subst (λ t. IsSeen t p i) (sym a.state) (all.seen i under waits-step) in
     let before = sym (beside-waiting s a.mid p i a.beside) ∙ all.before i under waits-step in
-    let known = marked-known now.board.state now.pages p i shape ranges shadows (on-after a.mid now.board.state p (Write p number value) tt a.sound a.state on-mid) under seen in
+    let known = marked-known now.board.state now.pages p i shape ranges shadows
+    (on-after a.mid now.board.state p (Write p number value) tt a.sound a.state on-mid) under seen in
     let h = probed on shown in
     record {
       news = h.0 ++ h.1;
@@ -195,18 +233,26 @@ eom-marked old now p i number value reply notices sound shape ranges shadows on 
       pending = known.1;
     }
 
-pub post-marked : (old now : LiveModel) (port kind ticket : ℕ) (payload : ArrayVec ℕ) (target : Port) (notices : List Notice) → IsSound old.board.state → length payload.items ≤ 240 → HasShape now.board.state → HasRanges now.board.state → Shadows now.board.state now.pages
-    → IsLive old (Post port kind payload) now (Accepted ticket) notices → HasLookedAt port old now → port_at (ports_of old.board.state) port ≡ Some target → LeavesMarked target.vp target.sint old now
+pub post-marked : (old now : LiveModel) (port kind ticket : ℕ) (payload : ArrayVec ℕ) (target : Port)
+    (notices : List Notice) → IsSound old.board.state → length payload.items ≤ 240 → HasShape now.board.state
+    → HasRanges now.board.state → Shadows now.board.state now.pages
+    → IsLive old (Post port kind payload) now (Accepted ticket) notices → HasLookedAt port old now
+    → port_at (ports_of old.board.state) port ≡ Some target → LeavesMarked target.vp target.sint old now
 unfolding step
-post-marked old now port kind ticket payload target notices sound size shape ranges shadows live looked opened shown waits =
+post-marked old now port kind ticket payload target notices sound size shape ranges shadows live looked opened shown
+    waits =
     let s : State = old.board.state in
     let p : ℕ = target.vp in
     let i : ℕ = target.sint in
     let a = after-stores old now (Post port kind payload) (Accepted ticket) notices sound live in
-    let there : port_at (ports_of a.mid) port ≡ Some target = (λ k. port_at (record { processors = length (a.beside.apics k); ports = a.beside.ports k }) port) ∙ opened in
+    let there : port_at (ports_of a.mid) port ≡ Some target =
+    (λ k. port_at (record { processors = length (a.beside.apics k); ports = a.beside.ports k }) port) ∙ opened in
     let reached = a.sound.whole.ports port target there in
-    let seen = subst (λ t. IsSeen t p i) (sym a.state) (post-seen a.mid port kind ticket payload target there a.sound size (sym a.answer) (subst (λ t. is_waiting t p i ≡ true) a.state waits)) in
-    let known = marked-known now.board.state now.pages p i shape ranges shadows (on-after a.mid now.board.state p (Post port kind payload) size a.sound a.state reached.0) reached.1 seen in
+    let seen = subst (λ t. IsSeen t p i) (sym a.state)
+    (post-seen a.mid port kind ticket payload target there a.sound size (sym a.answer)
+    (subst (λ t. is_waiting t p i ≡ true) a.state waits)) in
+    let known = marked-known now.board.state now.pages p i shape ranges shadows
+    (on-after a.mid now.board.state p (Post port kind payload) size a.sound a.state reached.0) reached.1 seen in
     let h = looked target opened shown in
     record {
       news = h.0 ++ Load (header i) h.1 ∷ [];

@@ -34,12 +34,14 @@ record OfPage (s : State) (q : ℕ) (looks marks : List Access) : Type 0 where
   pub marked : AreMarks marks
 
 -- the looks change own pages and tickets alone
-looked-rest : (m k : ℕ) (s t : State) (pages : List (List Access)) (looks marks : ℕ → List Access) → Rest s t → ((q : ℕ) → q < k + m → OfPage s q (looks q) (marks q)) → Rest s (run_of t (looked_from s pages looks k m)).0
+looked-rest : (m k : ℕ) (s t : State) (pages : List (List Access)) (looks marks : ℕ → List Access) → Rest s t
+    → ((q : ℕ) → q < k + m → OfPage s q (looks q) (marks q)) → Rest s (run_of t (looked_from s pages looks k m)).0
 unfolding run_of
 looked-rest zero k s t pages looks marks rest of = rest
 looked-rest (suc m) k s t pages looks marks rest of =
     subst (λ (r : Run). Rest s r.0) (sym (run-append t es (looked_from s pages looks (suc k) m)))
-    (looked-rest m (suc k) s (run_of t es).0 pages looks marks (rest-after s t (run_of t es).0 rest first) (λ q low. of q (omega (arith, low))))
+    (looked-rest m (suc k) s (run_of t es).0 pages looks marks (rest-after s t (run_of t es).0 rest first)
+    (λ q low. of q (omega (arith, low))))
   where
     log : List Access
     log = get_or pages (2 * k) []
@@ -52,16 +54,21 @@ looked-rest (suc m) k s t pages looks marks rest of =
 
     first : Rest t (run_of t es).0
     first = subst (λ l. Rest t (run_of t l).0) (same-explained s t k Sim (looks k) log (rest-number s t k Sim rest))
-        (page-changes t k Sim (looks k) log (λ shown. page.shown (shown-before s t k Sim rest shown)) (λ hidden. (page.hidden (λ shown. hidden (rest-shown s t k Sim rest shown))).0))
+        (page-changes t k Sim (looks k) log (λ shown. page.shown (shown-before s t k Sim rest shown))
+        (λ hidden. (page.hidden (λ shown. hidden (rest-shown s t k Sim rest shown))).0))
 
 -- the marks leave a slot that they do not access
-held-all : (m k : ℕ) (s t : State) (p i : ℕ) (pages : List (List Access)) (looks stores marks : ℕ → List Access) → IsSound t → k + m ≤ processors t → ((q : ℕ) → number_at t q Sim ≡ number_at s q Sim)
-    → ((q : ℕ) → q < k + m → ((IsShown t q Sim → ⊥) → marks q ≡ []) × AreMarks (marks q) × ((q ≢ p) ⊎ (is_accessed (header i) (marks q) ≡ false))) → Held t p i (run_of t (marked_from s pages looks stores marks k m)).0
+held-all : (m k : ℕ) (s t : State) (p i : ℕ) (pages : List (List Access)) (looks stores marks : ℕ → List Access)
+    → IsSound t → k + m ≤ processors t → ((q : ℕ) → number_at t q Sim ≡ number_at s q Sim)
+    → ((q : ℕ) → q < k + m → ((IsShown t q Sim → ⊥) → marks q ≡ []) × AreMarks (marks q)
+    × ((q ≢ p) ⊎ (is_accessed (header i) (marks q) ≡ false)))
+    → Held t p i (run_of t (marked_from s pages looks stores marks k m)).0
 unfolding run_of
 held-all zero k s t p i pages looks stores marks h on number of = record { rest = refl; bytes = λ b _. refl }
 held-all (suc m) k s t p i pages looks stores marks h on number of =
     subst (λ (r : Run). Held t p i r.0) (sym (run-append t es (explained_after s k (marks k) rest)))
-    (next (held-all m (suc k) s t p i pages looks stores marks h (omega (arith, on)) number (λ q low. of q (omega (arith, low)))))
+    (next (held-all m (suc k) s t p i pages looks stores marks h (omega (arith, on)) number
+    (λ q low. of q (omega (arith, low)))))
   where
     es : List Event
     es = marked_from s pages looks stores marks (suc k) m
@@ -73,20 +80,28 @@ held-all (suc m) k s t p i pages looks stores marks h on number of =
     mid = (run_of t es).0
 
     sound : IsSound mid
-    sound = (kept-by t mid es (run_of t es).1 (run_of t es).2 (fits-marked m (suc k) s pages looks stores marks) h refl).0
+    sound = (kept-by t mid es (run_of t es).1 (run_of t es).2
+        (fits-marked m (suc k) s pages looks stores marks) h refl).0
 
     next : Held t p i mid → Held t p i (run_of mid (explained_after s k (marks k) rest)).0
     next held = by (is-owner (owner_of (space_of mid) (number_at mid k Sim)) k Sim)
       where
-        page : ((IsShown t k Sim → ⊥) → marks k ≡ []) × AreMarks (marks k) × ((k ≢ p) ⊎ (is_accessed (header i) (marks k) ≡ false))
+        page : ((IsShown t k Sim → ⊥) → marks k ≡ []) × AreMarks (marks k)
+            × ((k ≢ p) ⊎ (is_accessed (header i) (marks k) ≡ false))
         page = of k (omega arith)
 
         there : k < processors mid
         there = omega (arith, on, ap processors held.rest)
 
-        by : (IsShown mid k Sim) ⊎ (IsShown mid k Sim → ⊥) → Held t p i (run_of mid (explained_after s k (marks k) rest)).0
-        by (inl shown) = held-after t mid (run_of mid (explained_after s k (marks k) rest)).0 p i held (held-marks s mid p i k (marks k) rest sound there shown (rest-number t mid k Sim held.rest ∙ number k) page.1 page.2)
-        by (inr hidden) = subst (λ l. Held t p i (run_of mid (explained_after s k l rest)).0) (sym (page.0 (λ shown. hidden (rest-shown t mid k Sim held.rest shown)))) held
+        by : (IsShown mid k Sim) ⊎ (IsShown mid k Sim → ⊥)
+            → Held t p i (run_of mid (explained_after s k (marks k) rest)).0
+        by (inl shown) =
+            held-after t mid (run_of mid (explained_after s k (marks k) rest)).0 p i held
+            (held-marks s mid p i k (marks k) rest sound there shown
+            (rest-number t mid k Sim held.rest ∙ number k) page.1 page.2)
+        by (inr hidden) =
+            subst (λ l. Held t p i (run_of mid (explained_after s k l rest)).0)
+            (sym (page.0 (λ shown. hidden (rest-shown t mid k Sim held.rest shown)))) held
 
 tick-goes : (s : State) (moment p i : ℕ) → IsSound s → i < 16 → Goes s p i (step s (Tick moment)).0
 unfolding step
@@ -101,36 +116,63 @@ unfolding step
 tick-early s moment none = early-queues s moment none
 
 -- the states of a tick: after the looks, after the tick, and after the marks
-record AreSteps (s : State) (moment : ℕ) (pages : List (List Access)) (looks stores marks : ℕ → List Access) (now : State) : Type 0 where
+record AreSteps (s : State) (moment : ℕ) (pages : List (List Access)) (looks stores marks : ℕ → List Access)
+    (now : State) : Type 0 where
   pub mid : State
   pub seen : Rest s mid
   pub sound : IsSound mid
   pub state : now ≡ (run_of (step mid (Tick moment)).0 (marked_from s pages looks stores marks 0 (processors s))).0
 
-steps-of : (s now : State) (moment : ℕ) (pages : List (List Access)) (looks stores marks : ℕ → List Access) (replies : List Reply) (notices : List Notice) → IsSound s → ((q : ℕ) → q < processors s → OfPage s q (looks q) (marks q))
-    → run_of s (looked_from s pages looks 0 (processors s) ++ Tick moment ∷ marked_from s pages looks stores marks 0 (processors s)) ≡ (now, replies, notices) → AreSteps s moment pages looks stores marks now
+steps-of : (s now : State) (moment : ℕ) (pages : List (List Access)) (looks stores marks : ℕ → List Access)
+    (replies : List Reply) (notices : List Notice) → IsSound s
+    → ((q : ℕ) → q < processors s → OfPage s q (looks q) (marks q))
+    → run_of s (looked_from s pages looks 0 (processors s)
+    ++ Tick moment ∷ marked_from s pages looks stores marks 0 (processors s)) ≡ (now, replies, notices)
+    → AreSteps s moment pages looks stores marks now
 unfolding run_of
 steps-of s now moment pages looks stores marks replies notices h of run = record {
   mid = (run_of s es).0;
   seen = looked-rest (processors s) 0 s s pages looks marks refl (λ q low. of q (omega (arith, low)));
-  sound = (kept-by s (run_of s es).0 es (run_of s es).1 (run_of s es).2 (fits-looked (processors s) 0 s pages looks) h refl).0;
-  state = sym (ap (λ (r : Run). r.0) (sym (run-append s es (Tick moment ∷ marked_from s pages looks stores marks 0 (processors s))) ∙ run));
+  sound = (kept-by s (run_of s es).0 es (run_of s es).1 (run_of s es).2
+      (fits-looked (processors s) 0 s pages looks) h refl).0;
+  state = sym (ap (λ (r : Run). r.0)
+      (sym (run-append s es (Tick moment ∷ marked_from s pages looks stores marks 0 (processors s))) ∙ run));
 }
   where
     es : List Event
     es = looked_from s pages looks 0 (processors s)
 
 -- the accesses of each page, whether a timer is due or not
-pages-of : (old now : LiveModel) (moment : ℕ) (reply : Reply) (owed : List Bool) (notices late : List Notice) → (t : IsTicked old moment now reply owed notices late) → (q : ℕ) → q < processors old.board.state → OfPage old.board.state q (t.looks q) (t.marks q)
+pages-of : (old now : LiveModel) (moment : ℕ) (reply : Reply) (owed : List Bool) (notices late : List Notice)
+    → (t : IsTicked old moment now reply owed notices late) → (q : ℕ) → q < processors old.board.state
+    → OfPage old.board.state q (t.looks q) (t.marks q)
 pages-of old now moment reply owed notices late t q low = by (is_any_due old.board.state moment) refl
   where
     by : (b : Bool) → is_any_due old.board.state moment ≡ b → OfPage old.board.state q (t.looks q) (t.marks q)
-    by true due = let are = t.due due q low in record { shown = λ shown. looks-of 16 (t.looks q) (omega arith) (are.shown shown); hidden = are.hidden; marked = are.marked }
-    by false idle = let none = t.idle idle q in record { shown = λ _. subst AreOfPage (sym none.0) tt; hidden = λ _. (none.0, none.2); marked = subst AreMarks (sym none.2) tt }
+    by true due =
+        let are =
+        t.due due q low in
+        record {
+          shown = λ shown. looks-of 16 (t.looks q) (omega arith) (are.shown shown);
+          hidden = are.hidden;
+          marked = are.marked;
+        }
+    by false idle =
+        let none =
+        t.idle idle q in
+        record {
+          shown = λ _. subst AreOfPage (sym none.0) tt;
+          hidden = λ _. (none.0, none.2);
+          marked = subst AreMarks (sym none.2) tt;
+        }
 
-pub tick-marked : (old now : LiveModel) (p i moment : ℕ) (reply : Reply) (owed : List Bool) (notices late : List Notice) → IsSound old.board.state → HasShape now.board.state → HasRanges now.board.state → Shadows now.board.state now.pages
-    → p < processors old.board.state → i < 16 → IsTicked old moment now reply owed notices late → LeavesMarkedUnlessOwed p i old now (get_or owed p false)
-tick-marked old now p i moment reply owed notices late sound shape ranges shadows on under t other none shown waits = by (is_any_due s moment) refl
+pub tick-marked : (old now : LiveModel) (p i moment : ℕ) (reply : Reply) (owed : List Bool)
+    (notices late : List Notice) → IsSound old.board.state → HasShape now.board.state → HasRanges now.board.state
+    → Shadows now.board.state now.pages
+    → p < processors old.board.state → i < 16 → IsTicked old moment now reply owed notices late
+    → LeavesMarkedUnlessOwed p i old now (get_or owed p false)
+tick-marked old now p i moment reply owed notices late sound shape ranges shadows on under t other none shown waits =
+    by (is_any_due s moment) refl
   where
     s : State
     s = old.board.state
@@ -164,10 +206,15 @@ tick-marked old now p i moment reply owed notices late sound shape ranges shadow
         bound (suc n) e = let last = end-on n (omega (arith, e)) in omega (arith, last)
 
     hidden : (q : ℕ) → q < processors s → (IsShown end q Sim → ⊥) → t.marks q ≡ []
-    hidden q low unseen = ((of q low).hidden (λ seen. unseen (shown-same steps.mid end q grows.regs grows.pages (rest-shown s steps.mid q Sim steps.seen seen)))).1
+    hidden q low unseen =
+        ((of q low).hidden (λ seen.
+        unseen (shown-same steps.mid end q grows.regs grows.pages (rest-shown s steps.mid q Sim steps.seen seen)))).1
 
     held : (j : ℕ) → is_accessed (header j) (t.marks p) ≡ false → Held end p j now.board.state
-    held j not = subst (Held end p j) (sym steps.state) (held-all (processors s) 0 s end p j old.pages t.looks t.stores t.marks (after-sound steps.mid (Tick moment) tt steps.sound) (omega (arith, whole)) number
+    held j not =
+        subst (Held end p j) (sym steps.state)
+        (held-all (processors s) 0 s end p j old.pages t.looks t.stores t.marks
+        (after-sound steps.mid (Tick moment) tt steps.sound) (omega (arith, whole)) number
         (λ q low. (hidden q (omega (arith, low)), (of q (omega (arith, low))).marked, apart q (cases_eq q p))))
       where
         apart : (q : ℕ) → (q ≡ p) ⊎ (q ≢ p) → (q ≢ p) ⊎ (is_accessed (header j) (t.marks q) ≡ false)
@@ -181,9 +228,14 @@ tick-marked old now p i moment reply owed notices late sound shape ranges shadow
     now-on = subst (λ n. p < n) (sym (ap processors last)) (end-on p on)
 
     by : (b : Bool) → is_any_due s moment ≡ b → IsLeftMarked i (log_of old p Sim) (log_of now p Sim)
-    by true due = left-marked i (t.looks p) (t.stores p) (t.marks p) (log_of old p Sim) (log_of now p Sim) (t.logs p on) under ((t.due due p on).shown shown)
-        (word-marked end now.board.state p i (t.marks p) (t.stores p ++ (t.looks p ++ log_of old p Sim)) (log_of now p Sim) now.pages (of p on).marked (sym (t.owes p on) ∙ none) (t.logs p on) refl (held i)
-        (seen-after s steps.mid end now.board.state p i steps.seen last (tick-goes steps.mid moment p i steps.sound under) other waits) now-on shape ranges shadows under)
+    by true due =
+        left-marked i (t.looks p) (t.stores p) (t.marks p) (log_of old p Sim) (log_of now p Sim) (t.logs p on) under
+        ((t.due due p on).shown shown)
+        (word-marked end now.board.state p i (t.marks p) (t.stores p ++ (t.looks p ++ log_of old p Sim))
+        (log_of now p Sim) now.pages (of p on).marked (sym (t.owes p on) ∙ none) (t.logs p on) refl (held i)
+        (seen-after s steps.mid end now.board.state p i steps.seen last
+        (tick-goes steps.mid moment p i steps.sound under) other waits) now-on shape ranges shadows under)
     by false idle =
         let early = tick-early steps.mid moment (ap (λ x. is_any_due x moment) steps.seen ∙ idle) in
-        absurd (other (ap (λ (x : State). queue_of x.queues p i) last ∙ ap (λ l. queue_of l p i) early ∙ ap (λ (x : State). queue_of x.queues p i) steps.seen))
+        absurd (other (ap (λ (x : State). queue_of x.queues p i) last ∙ ap (λ l. queue_of l p i) early
+        ∙ ap (λ (x : State). queue_of x.queues p i) steps.seen))

@@ -89,18 +89,22 @@ AreCareful k (Store w value ∷ news) log = MayStore k (known (news ++ log)) w �
 abbrev pub log_of : LiveModel → ℕ → Kind → List Access
 log_of m p k = slice_index_or m.pages (overlay_of p k) []
 
--- a live board performs an event: the host accesses words of one own page, and the reference model performs the guest's stores
+-- a live board performs an event: the host accesses words of one own page, and the reference model performs the
+-- guest's stores
 -- that these accesses show, and then the event
-pub record IsLive (old : LiveModel) (event : Event) (now : LiveModel) (reply : Reply) (notices : List Notice) : Type 0 where
+pub record IsLive (old : LiveModel) (event : Event) (now : LiveModel) (reply : Reply)
+    (notices : List Notice) : Type 0 where
   pub vp : ℕ
   pub kind : Kind
   pub news : List Access
   pub pages : now.pages ≡ slice_set old.pages (overlay_of vp kind) (news ++ log_of old vp kind)
-  pub run : run_of old.board.state (explained old.board.state vp kind news (log_of old vp kind) ++ event ∷ []) ≡ (now.board.state, all_done (explained old.board.state vp kind news (log_of old vp kind)) ++ reply ∷ [], notices)
+  pub run : run_of old.board.state (explained old.board.state vp kind news (log_of old vp kind) ++ event ∷ [])
+      ≡ (now.board.state, all_done (explained old.board.state vp kind news (log_of old vp kind)) ++ reply ∷ [], notices)
   pub careful : IsShown old.board.state vp kind → AreCareful kind news (log_of old vp kind)
 
 -- a live board performs an event without an access to a live page
-pub record IsQuietly (old : LiveModel) (event : Event) (now : LiveModel) (reply : Reply) (notices : List Notice) : Type 0 where
+pub record IsQuietly (old : LiveModel) (event : Event) (now : LiveModel) (reply : Reply)
+    (notices : List Notice) : Type 0 where
   pub pages : now.pages ≡ old.pages
   pub performs : Performs old.board event now.board reply notices
 
@@ -127,7 +131,8 @@ NoneQueued s p = (i : ℕ) → i < 16 → queue_of s.queues p i ≡ []
 abbrev pub IsProbe : ℕ → List Access → Type 0
 IsProbe i news = (found : ℕ)
     × (((news ≡ Load (header i) found ∷ []) × ((type_of found ≡ 0) ⊎ (is_pending found ≡ true)))
-    ⊎ ((marked : ℕ) × (news ≡ FetchOr (header i) pending_mask marked ∷ Load (header i) found ∷ []) × (type_of found ≢ 0) × (is_pending found ≡ false)))
+    ⊎ ((marked : ℕ) × (news ≡ FetchOr (header i) pending_mask marked ∷ Load (header i) found ∷ [])
+    × (type_of found ≢ 0) × (is_pending found ≡ false)))
 
 abbrev pub ProbesIf : Bool → ℕ → List Access → Type 0
 ProbesIf true i news = IsProbe i news
@@ -136,16 +141,22 @@ ProbesIf false i news = news ≡ []
 -- probes of the slots below n whose sources wait, in order
 abbrev pub AreProbes : State → ℕ → ℕ → List Access → Type 0
 AreProbes s p zero news = news ≡ []
-AreProbes s p (suc n) news = (one : List Access) × (rest : List Access) × (news ≡ one ++ rest) × ProbesIf (is_waiting s p n) n one × AreProbes s p n rest
+AreProbes s p (suc n) news =
+    (one : List Access) × (rest : List Access) × (news ≡ one ++ rest) × ProbesIf (is_waiting s p n) n one
+    × AreProbes s p n rest
 
 -- the new accesses are probes of the slots of all sources that wait, and then stores
 abbrev pub HasProbed : State → ℕ → List Access → List Access → Type 0
-HasProbed s p log now = (stores : List Access) × (probes : List Access) × (now ≡ stores ++ (probes ++ log)) × AreStores stores × AreProbes s p 16 probes
+HasProbed s p log now =
+    (stores : List Access) × (probes : List Access) × (now ≡ stores ++ (probes ++ log)) × AreStores stores
+    × AreProbes s p 16 probes
 
--- the guest's store that a mark after an event shows, if the event has made the mark: the word is another one than the event left
+-- the guest's store that a mark after an event shows, if the event has made the mark: the word is another one than
+-- the event left
 abbrev pub marked_by : State → ℕ → Access → List Access → List Event
 marked_by s p (Load w found) log = []
-marked_by s p (FetchOr w mask found) log = if bit_or found mask == bit_or (known log w) mask then [] else store_of s p kind.Sim w (bit_or found mask) ∷ []
+marked_by s p (FetchOr w mask found) log =
+    if bit_or found mask == bit_or (known log w) mask then [] else store_of s p kind.Sim w (bit_or found mask) ∷ []
 marked_by s p (Store w value) log = []
 
 -- the guest's stores that some marks after an event show
@@ -172,16 +183,19 @@ abbrev pub AreLooks : ℕ → List Access → Type 0
 AreLooks zero news = news ≡ []
 AreLooks (suc n) news = (found : ℕ) × (rest : List Access) × (news ≡ Load (32 * n) found ∷ rest) × AreLooks n rest
 
--- a live board looks at the header of each slot of a message page, if the guest sees it, and the reference model performs the
+-- a live board looks at the header of each slot of a message page, if the guest sees it, and the reference model
+-- performs the
 -- guest's stores that these show
 pub record IsObserved (p : ℕ) (old : LiveModel) (now : LiveModel) (notices : List Notice) : Type 0 where
   pub news : List Access
   pub pages : now.pages ≡ slice_set old.pages (2 * p) (news ++ log_of old p kind.Sim)
   pub shown : IsShown old.board.state p kind.Sim → AreLooks 16 news
   pub hidden : (IsShown old.board.state p kind.Sim → ⊥) → news ≡ []
-  pub run : run_of old.board.state (explained old.board.state p kind.Sim news (log_of old p kind.Sim)) ≡ (now.board.state, all_done (explained old.board.state p kind.Sim news (log_of old p kind.Sim)), notices)
+  pub run : run_of old.board.state (explained old.board.state p kind.Sim news (log_of old p kind.Sim))
+      ≡ (now.board.state, all_done (explained old.board.state p kind.Sim news (log_of old p kind.Sim)), notices)
 
--- what a write of a timer may access in a message page: a look at each slot, then the event and stores, then marks of slots that the
+-- what a write of a timer may access in a message page: a look at each slot, then the event and stores, then marks of
+-- slots that the
 -- event marked and the host did not
 pub record AreTimed (s : State) (p : ℕ) (looks stores marks log : List Access) : Type 0 where
   pub shown : IsShown s p kind.Sim → AreLooks 16 looks
@@ -190,17 +204,27 @@ pub record AreTimed (s : State) (p : ℕ) (looks stores marks log : List Access)
   pub marked : AreMarks marks
   pub careful : IsShown s p kind.Sim → AreCareful kind.Sim stores (looks ++ log)
 
--- a live board performs a write of a timer of a processor: the reference model performs the guest's stores that the looks show, then
--- the event, and then the guest's stores that the marks show. The processor is owed an EOM if a mark found an empty slot. If the timer is
+-- a live board performs a write of a timer of a processor: the reference model performs the guest's stores that the
+-- looks show, then
+-- the event, and then the guest's stores that the marks show. The processor is owed an EOM if a mark found an empty
+-- slot. If the timer is
 -- in direct mode then, nothing is stored or marked
-pub record IsTimed (p : ℕ) (old : LiveModel) (event : Event) (now : LiveModel) (reply : Reply) (owed : Bool) (notices : List Notice) : Type 0 where
+pub record IsTimed (p : ℕ) (old : LiveModel) (event : Event) (now : LiveModel) (reply : Reply) (owed : Bool)
+    (notices : List Notice) : Type 0 where
   pub looks : List Access
   pub stores : List Access
   pub marks : List Access
   pub are : AreTimed old.board.state p looks stores marks (log_of old p kind.Sim)
   pub pages : now.pages ≡ slice_set old.pages (2 * p) (marks ++ (stores ++ (looks ++ log_of old p kind.Sim)))
-  pub run : run_of old.board.state (explained old.board.state p kind.Sim looks (log_of old p kind.Sim) ++ event ∷ explained_after old.board.state p marks (stores ++ (looks ++ log_of old p kind.Sim)))
-      ≡ (now.board.state, all_done (explained old.board.state p kind.Sim looks (log_of old p kind.Sim)) ++ reply ∷ all_done (explained_after old.board.state p marks (stores ++ (looks ++ log_of old p kind.Sim))), notices)
+  pub run : run_of old.board.state
+      (explained old.board.state p kind.Sim looks (log_of old p kind.Sim)
+      ++ event ∷ explained_after old.board.state p marks (stores ++ (looks ++ log_of old p kind.Sim)))
+      ≡ (
+        now.board.state,
+        all_done (explained old.board.state p kind.Sim looks (log_of old p kind.Sim))
+            ++ reply ∷ all_done (explained_after old.board.state p marks (stores ++ (looks ++ log_of old p kind.Sim))),
+        notices,
+      )
   pub owes : owed ≡ finds_empty marks
   pub direct : is_direct_write old.board.state event ≡ true → (stores ≡ []) × (marks ≡ [])
 
@@ -210,40 +234,63 @@ is_any_due s moment = option_map_or (λ r. nat_le r.0 moment) (least (dues (bank
 
 -- each timer of a processor that is due at a time is in direct mode
 abbrev pub AreDueDirect : State → ℕ → ℕ → Type 0
-AreDueDirect s p moment = (i : ℕ) → i < 4 → is_due (timer_in (bank_of s) (p, i)) moment ≡ true → is_direct (timer_in (bank_of s) (p, i)).config ≡ true
+AreDueDirect s p moment =
+    (i : ℕ) → i < 4 → is_due (timer_in (bank_of s) (p, i)) moment ≡ true
+    → is_direct (timer_in (bank_of s) (p, i)).config ≡ true
 
--- the guest's stores that looks at the m message pages from k on show, and those that marks there show, the last page first
+-- the guest's stores that looks at the m message pages from k on show, and those that marks there show, the last page
+-- first
 abbrev pub looked_from : State → List (List Access) → (ℕ → List Access) → ℕ → ℕ → List Event
 looked_from s pages looks k zero = []
-looked_from s pages looks k (suc m) = explained s k kind.Sim (looks k) (slice_index_or pages (2 * k) []) ++ looked_from s pages looks (suc k) m
+looked_from s pages looks k (suc m) =
+    explained s k kind.Sim (looks k) (slice_index_or pages (2 * k) []) ++ looked_from s pages looks (suc k) m
 
-abbrev pub marked_from : State → List (List Access) → (ℕ → List Access) → (ℕ → List Access) → (ℕ → List Access) → ℕ → ℕ → List Event
+abbrev pub marked_from : State → List (List Access) → (ℕ → List Access) → (ℕ → List Access) → (ℕ → List Access) → ℕ
+    → ℕ → List Event
 marked_from s pages looks stores marks k zero = []
-marked_from s pages looks stores marks k (suc m) = marked_from s pages looks stores marks (suc k) m ++ explained_after s k (marks k) (stores k ++ (looks k ++ slice_index_or pages (2 * k) []))
+marked_from s pages looks stores marks k (suc m) =
+    marked_from s pages looks stores marks (suc k) m
+    ++ explained_after s k (marks k) (stores k ++ (looks k ++ slice_index_or pages (2 * k) []))
 
--- a live board performs a tick. If a timer is due, it may access at each message page what a write of a timer may access: the reference
--- model performs the guest's stores that the looks show, then the tick, and then the guest's stores that the marks show, whose notices
--- are `late`. A processor is owed an EOM if a mark at its page found an empty slot. If none is due, nothing is accessed; if those of a
+-- a live board performs a tick. If a timer is due, it may access at each message page what a write of a timer may
+-- access: the reference
+-- model performs the guest's stores that the looks show, then the tick, and then the guest's stores that the marks
+-- show, whose notices
+-- are `late`. A processor is owed an EOM if a mark at its page found an empty slot. If none is due, nothing is
+-- accessed; if those of a
 -- processor that are due are in direct mode, nothing is stored or marked at its page
-pub record IsTicked (old : LiveModel) (moment : ℕ) (now : LiveModel) (reply : Reply) (owed : List Bool) (notices late : List Notice) : Type 0 where
+pub record IsTicked (old : LiveModel) (moment : ℕ) (now : LiveModel) (reply : Reply) (owed : List Bool)
+    (notices late : List Notice) : Type 0 where
   pub looks : ℕ → List Access
   pub stores : ℕ → List Access
   pub marks : ℕ → List Access
-  pub due : is_any_due old.board.state moment ≡ true → (p : ℕ) → p < processors old.board.state → AreTimed old.board.state p (looks p) (stores p) (marks p) (log_of old p kind.Sim)
+  pub due : is_any_due old.board.state moment ≡ true → (p : ℕ) → p < processors old.board.state
+      → AreTimed old.board.state p (looks p) (stores p) (marks p) (log_of old p kind.Sim)
   pub idle : is_any_due old.board.state moment ≡ false → (p : ℕ) → (looks p ≡ []) × (stores p ≡ []) × (marks p ≡ [])
-  pub logs : (p : ℕ) → p < processors old.board.state → log_of now p kind.Sim ≡ marks p ++ (stores p ++ (looks p ++ log_of old p kind.Sim))
+  pub logs : (p : ℕ) → p < processors old.board.state
+      → log_of now p kind.Sim ≡ marks p ++ (stores p ++ (looks p ++ log_of old p kind.Sim))
   pub flags : (p : ℕ) → log_of now p kind.Sief ≡ log_of old p kind.Sief
-  pub run : run_of old.board.state (looked_from old.board.state old.pages looks 0 (processors old.board.state) ++ event.Tick moment ∷ marked_from old.board.state old.pages looks stores marks 0 (processors old.board.state))
-      ≡ (now.board.state, all_done (looked_from old.board.state old.pages looks 0 (processors old.board.state)) ++ reply ∷ all_done (marked_from old.board.state old.pages looks stores marks 0 (processors old.board.state)), notices ++ late)
+  pub run : run_of old.board.state
+      (looked_from old.board.state old.pages looks 0 (processors old.board.state)
+      ++ event.Tick moment ∷ marked_from old.board.state old.pages looks stores marks 0 (processors old.board.state))
+      ≡ (
+        now.board.state,
+        all_done (looked_from old.board.state old.pages looks 0 (processors old.board.state))
+            ++ reply ∷ all_done (marked_from old.board.state old.pages looks stores marks 0
+            (processors old.board.state)),
+        notices ++ late,
+      )
   pub owes : (p : ℕ) → p < processors old.board.state → slice_index_or owed p false ≡ finds_empty (marks p)
-  pub direct : (p : ℕ) → p < processors old.board.state → AreDueDirect old.board.state p moment → (stores p ≡ []) × (marks p ≡ [])
+  pub direct : (p : ℕ) → p < processors old.board.state → AreDueDirect old.board.state p moment → (stores p ≡ [])
+      × (marks p ≡ [])
 
 -- stores of zero to the words below n, in order
 abbrev pub AreClears : ℕ → List Access → Type 0
 AreClears zero news = news ≡ []
 AreClears (suc n) news = (rest : List Access) × (news ≡ Store n 0 ∷ rest) × AreClears n rest
 
--- a live board resets a processor: a look at the header of each slot of its message page, if the guest sees it, the event after the
+-- a live board resets a processor: a look at the header of each slot of its message page, if the guest sees it, the
+-- event after the
 -- guest's stores that these show, and stores of zero to all words of both its pages
 pub record IsReset (p : ℕ) (old : LiveModel) (now : LiveModel) (reply : Reply) (notices : List Notice) : Type 0 where
   pub looks : List Access
@@ -252,5 +299,12 @@ pub record IsReset (p : ℕ) (old : LiveModel) (now : LiveModel) (reply : Reply)
   pub shown : IsShown old.board.state p kind.Sim → AreLooks 16 looks
   pub hidden : (IsShown old.board.state p kind.Sim → ⊥) → looks ≡ []
   pub clears : AreClears 512 messages × AreClears 512 flags
-  pub pages : now.pages ≡ slice_set (slice_set old.pages (2 * p) (messages ++ (looks ++ log_of old p kind.Sim))) (2 * p + 1) (flags ++ log_of old p kind.Sief)
-  pub run : run_of old.board.state (explained old.board.state p kind.Sim looks (log_of old p kind.Sim) ++ event.Reset p ∷ []) ≡ (now.board.state, all_done (explained old.board.state p kind.Sim looks (log_of old p kind.Sim)) ++ reply ∷ [], notices)
+  pub pages : now.pages ≡ slice_set (slice_set old.pages (2 * p) (messages ++ (looks ++ log_of old p kind.Sim)))
+      (2 * p + 1) (flags ++ log_of old p kind.Sief)
+  pub run : run_of old.board.state
+      (explained old.board.state p kind.Sim looks (log_of old p kind.Sim) ++ event.Reset p ∷ [])
+      ≡ (
+        now.board.state,
+        all_done (explained old.board.state p kind.Sim looks (log_of old p kind.Sim)) ++ reply ∷ [],
+        notices,
+      )

@@ -24,27 +24,32 @@ pub record Call : Type 0 where
 -- some calls, one after another, take a live board from one state to another
 abbrev pub AreCalls : LiveModel → List Call → LiveModel → Type 0
 AreCalls old [] now = now ≡ old
-AreCalls old (c ∷ calls) now = (mid : LiveModel) × Acts old c.event mid c.reply c.owed c.notices c.late × AreCalls mid calls now
+AreCalls old (c ∷ calls) now =
+    (mid : LiveModel) × Acts old c.event mid c.reply c.owed c.notices c.late × AreCalls mid calls now
 
 -- a store of a word by the guest
 abbrev pub IsGuestStore : Event → Type 0
 IsGuestStore event = (address : ℕ) × (value : ℕ) × (event ≡ Store address (record { items = to_le_bytes w64 value }))
 
--- the events of the calls in their order, each once, with stores of the guest before and after each, and the replies to all of them. An
+-- the events of the calls in their order, each once, with stores of the guest before and after each, and the replies
+-- to all of them. An
 -- access of the guest that the caller makes in a live page itself is not among them
 abbrev pub HasBetween : List Call → List Event → List Reply → Type 0
 HasBetween [] events replies = (events ≡ []) × (replies ≡ [])
 HasBetween (c ∷ calls) events replies =
     ((c.reply ≡ Refused Elsewhere) × HasBetween calls events replies)
-    ⊎ ((before : List Event) × (after : List Event) × (later : List Event) × (more : List Reply) × All IsGuestStore before × All IsGuestStore after
-    × (events ≡ (before ++ c.event ∷ after) ++ later) × (replies ≡ (all_done before ++ c.reply ∷ all_done after) ++ more) × HasBetween calls later more)
+    ⊎ ((before : List Event) × (after : List Event) × (later : List Event) × (more : List Reply)
+    × All IsGuestStore before × All IsGuestStore after
+    × (events ≡ (before ++ c.event ∷ after) ++ later)
+    × (replies ≡ (all_done before ++ c.reply ∷ all_done after) ++ more) × HasBetween calls later more)
 
 -- the notices of all calls
 abbrev pub notices_of : List Call → List Notice
 notices_of [] = []
 notices_of (c ∷ calls) = (c.notices ++ c.late) ++ notices_of calls
 
--- the reference model performs the events of some calls, with stores of the guest in between, and gets from one state to another with the
+-- the reference model performs the events of some calls, with stores of the guest in between, and gets from one state
+-- to another with the
 -- replies and notices of the calls
 pub record IsRunOf (calls : List Call) (s now : State) : Type 0 where
   pub events : List Event

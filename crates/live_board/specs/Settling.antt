@@ -19,13 +19,23 @@ pub record AreAllLoads (s : State) (p : ℕ) (k : Kind) (news : List Access) : T
   pub shown : IsShown s p k → AreLoads 512 news
   pub hidden : (IsShown s p k → ⊥) → news ≡ []
 
--- a live board loads all words of both pages of a processor that the guest sees, the message page first, and the reference model
+-- a live board loads all words of both pages of a processor that the guest sees, the message page first, and the
+-- reference model
 -- performs the guest's stores that these show
 pub record IsSettled (p : ℕ) (old : LiveModel) (now : LiveModel) (notices : List Notice) : Type 0 where
   pub messages : List Access
   pub flags : List Access
   pub are_messages : AreAllLoads old.board.state p Sim messages
   pub are_flags : AreAllLoads old.board.state p Sief flags
-  pub pages : now.pages ≡ slice_set (slice_set old.pages (2 * p) (messages ++ log_of old p Sim)) (2 * p + 1) (flags ++ log_of old p Sief)
-  pub run : run_of old.board.state (explained old.board.state p Sim messages (log_of old p Sim) ++ explained old.board.state p Sief flags (log_of old p Sief))
-      ≡ (now.board.state, all_done (explained old.board.state p Sim messages (log_of old p Sim) ++ explained old.board.state p Sief flags (log_of old p Sief)), notices)
+  pub pages : now.pages ≡ slice_set (slice_set old.pages (2 * p) (messages ++ log_of old p Sim)) (2 * p + 1)
+      (flags ++ log_of old p Sief)
+  pub run : run_of old.board.state
+      (explained old.board.state p Sim messages (log_of old p Sim)
+      ++ explained old.board.state p Sief flags (log_of old p Sief))
+      ≡ (
+        now.board.state,
+        all_done
+            (explained old.board.state p Sim messages (log_of old p Sim)
+            ++ explained old.board.state p Sief flags (log_of old p Sief)),
+        notices,
+      )

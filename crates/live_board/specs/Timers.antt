@@ -22,7 +22,8 @@ is_timer_write _ = false
 
 -- the processor whose timer is written, if it is on the board
 abbrev pub timer_of : State → Event → Option ℕ
-timer_of s (Write p number value) = if option_map_or is_timer_register (register_of number) false && nat_lt p (processors s) then Some p else None
+timer_of s (Write p number value) =
+    if option_map_or is_timer_register (register_of number) false && nat_lt p (processors s) then Some p else None
 timer_of s _ = None
 
 -- a write of a timer that is in direct mode then, and sends no message

@@ -1,4 +1,5 @@
--- The guest's wake-up for a message that stays queued (TLFS, "Message Delivery"): it finds MessagePending in the slot that it empties.
+-- The guest's wake-up for a message that stays queued (TLFS, "Message Delivery"): it finds MessagePending in the slot
+-- that it empties.
 use Rattle.std.specs.Prelude.{◌≡◌, ◌≢◌, ℕ, ◌==◌, ◌||◌, ◌++◌, Bool, true, false, List, [], ◌∷◌}
 use Rattle.board_terms.specs.declared.pages.Kind.TheVariants.{Sim}
 use Rattle.message_queues.specs.Queues.{queue_of}
@@ -20,7 +21,8 @@ abbrev pub is_accessed : ℕ → List Access → Bool
 is_accessed w [] = false
 is_accessed w (a ∷ news) = is_of w a || is_accessed w news
 
--- the host accesses the header of a slot, and the last time it finds or leaves it occupied and with MessagePending. A guest that empties
+-- the host accesses the header of a slot, and the last time it finds or leaves it occupied and with MessagePending. A
+-- guest that empties
 -- the slot does it later, and then loads the flags: it finds MessagePending, and writes EOM
 pub record IsLeftMarked (i : ℕ) (log now : List Access) : Type 0 where
   pub news : List Access
@@ -29,15 +31,20 @@ pub record IsLeftMarked (i : ℕ) (log now : List Access) : Type 0 where
   pub occupied : type_of (known now (header i)) ≢ 0
   pub pending : is_pending (known now (header i)) ≡ true
 
--- if a message waits for a source after a call, and the guest sees the message page, its slot is left marked in that call
+-- if a message waits for a source after a call, and the guest sees the message page, its slot is left marked in that
+-- call
 abbrev pub LeavesMarked : ℕ → ℕ → LiveModel → LiveModel → Type 0
-LeavesMarked p i old now = IsShown old.board.state p Sim → is_waiting now.board.state p i ≡ true → IsLeftMarked i (log_of old p Sim) (log_of now p Sim)
+LeavesMarked p i old now =
+    IsShown old.board.state p Sim → is_waiting now.board.state p i ≡ true
+    → IsLeftMarked i (log_of old p Sim) (log_of now p Sim)
 
 -- the same if other messages wait for the source than before the call, unless the processor is owed an EOM
 abbrev pub LeavesMarkedUnlessOwed : ℕ → ℕ → LiveModel → LiveModel → Bool → Type 0
-LeavesMarkedUnlessOwed p i old now owed = queue_of now.board.state.queues p i ≢ queue_of old.board.state.queues p i → owed ≡ false → LeavesMarked p i old now
+LeavesMarkedUnlessOwed p i old now owed =
+    queue_of now.board.state.queues p i ≢ queue_of old.board.state.queues p i → owed ≡ false → LeavesMarked p i old now
 
--- in a history of a page there was a time in a call, whose accesses follow a log, when the host had accessed the header of a slot and
+-- in a history of a page there was a time in a call, whose accesses follow a log, when the host had accessed the
+-- header of a slot and
 -- memory had it occupied and with MessagePending, and since then the host has not accessed it
 pub record WasMarked (i : ℕ) (log : List Access) (turns : List Turn) : Type 0 where
   pub since : List Turn
@@ -50,7 +57,8 @@ pub record WasMarked (i : ℕ) (log : List Access) (turns : List Turn) : Type 0 
   pub pending : is_pending (memory before (header i)) ≡ true
   pub untouched : is_accessed (header i) (accesses since) ≡ false
 
--- a header and a guest as they may be when the host has left a slot marked: a guest's store of type 0 is in its buffer only until the
+-- a header and a guest as they may be when the host has left a slot marked: a guest's store of type 0 is in its
+-- buffer only until the
 -- guest loads the flags
 pub record MayFollow (word : ℕ) (s : Slot) : Type 0 where
   pub header : s.header ≡ word

@@ -77,7 +77,8 @@ impl LiveBoard {
         value: u64,
         notices: &mut Notices,
     ) -> (Reply, [bool; 8])
-        ensures { IsRegisterWrite (register_of register) vp self.old (Write vp register value) self.new result.0 result.1 notices.new }
+        ensures { IsRegisterWrite (register_of register) vp self.old
+            (Write vp register value) self.new result.0 result.1 notices.new }
     {
         if register == msr::EOM {
             return (self.end_message(vp, value, notices), NONE_OWED);
@@ -112,7 +113,8 @@ impl LiveBoard {
         notices: &mut Notices,
     ) -> (Reply, [bool; 8])
         requires { IsTimerWriteBy vp (Write vp register value) }
-        ensures { IsTimedWrite (nat_lt vp (processors self.old.board.state)) vp self.old (Write vp register value) self.new result.0 result.1 notices.new }
+        ensures { IsTimedWrite (nat_lt vp (processors self.old.board.state)) vp self.old
+            (Write vp register value) self.new result.0 result.1 notices.new }
     {
         if self.write_direct(vp, register, value, notices) {
             return (Reply::Done, NONE_OWED);
@@ -131,8 +133,10 @@ impl LiveBoard {
         notices: &mut Notices,
     ) -> (Reply, [bool; 8])
         requires timer { IsTimerWriteBy vp (Write vp register value) }
-        requires posted { (p : ℕ) → timer_of self.old.board.state (Write vp register value) ≡ Some p → is_direct_write self.old.board.state (Write vp register value) ≡ false }
-        ensures { IsTimedWrite (nat_lt vp (processors self.old.board.state)) vp self.old (Write vp register value) self.new result.0 result.1 notices.new }
+        requires posted { (p : ℕ) → timer_of self.old.board.state (Write vp register value) ≡ Some p
+            → is_direct_write self.old.board.state (Write vp register value) ≡ false }
+        ensures { IsTimedWrite (nat_lt vp (processors self.old.board.state)) vp self.old
+            (Write vp register value) self.new result.0 result.1 notices.new }
     {
         self.facts();
         self.board().facts();
@@ -153,7 +157,8 @@ impl LiveBoard {
     /// Performs an access of the guest to memory, unless it sees a live page there.
     fn access(&mut self, address: u64, event: &Event, notices: &mut Notices) -> Reply
         requires { accessed_at event.now ≡ Some address }
-        ensures { IsAccess (is_covered (space_of self.old.board.state) (address / 4096)) self.old event.now self.new result notices.new }
+        ensures { IsAccess (is_covered (space_of self.old.board.state) (address / 4096)) self.old event.now self.new
+            result notices.new }
     {
         notices.clear();
         if self.is_live_at(address) {

@@ -31,42 +31,51 @@ ghost use Rattle.live_board.specs.Live.{LiveModel, Shadows, IsLive, IsQuietly, I
 /// Whatever the host finds in a live page, the events that explain it are stores of words of that
 /// page, where the guest sees it. So what is proved of all events of all guests holds of them.
 pub fn a_guest_only_stores()
-    ensures before { (s : State) (p : ℕ) (k : Kind) (news log : List Access) → All (IsOwnStore s p k) (explained s p k news log) }
-    ensures after { (s : State) (p : ℕ) (marks log : List Access) → All (IsOwnStore s p Sim) (explained_after s p marks log) }
+    ensures before { (s : State) (p : ℕ) (k : Kind) (news log : List Access)
+        → All (IsOwnStore s p k) (explained s p k news log) }
+    ensures after { (s : State) (p : ℕ) (marks log : List Access)
+        → All (IsOwnStore s p Sim) (explained_after s p marks log) }
 {}
 
 /// An event that accesses no live page is one whose accesses are none.
 pub fn an_event_without_accesses_is_live()
-    ensures { (old now : LiveModel) (event : Event) (reply : Reply) (notices : List Notice) → IsQuietly old event now reply notices → IsLive old event now reply notices }
+    ensures { (old now : LiveModel) (event : Event) (reply : Reply) (notices : List Notice)
+        → IsQuietly old event now reply notices → IsLive old event now reply notices }
 {}
 
 /// Whatever a guest stores meanwhile, an event of a live board conserves the messages: each accepted
 /// one is queued, in a slot, consumed or withdrawn, exactly once. The state stays sound.
 pub fn an_event_conserves_messages()
-    ensures { (old now : LiveModel) (event : Event) (reply : Reply) (notices : List Notice) → IsSound old.board.state → PayloadFits event → IsLive old event now reply notices
+    ensures { (old now : LiveModel) (event : Event) (reply : Reply) (notices : List Notice) → IsSound old.board.state
+        → PayloadFits event → IsLive old event now reply notices
         → IsSound now.board.state × Conserves old.board.state now.board.state notices }
 {}
 
 /// The same for a write of a timer.
 pub fn a_timer_write_conserves_messages()
-    ensures { (p : ℕ) (old now : LiveModel) (event : Event) (reply : Reply) (owed : Bool) (notices : List Notice) → IsSound old.board.state → PayloadFits event → IsTimed p old event now reply owed notices
+    ensures { (p : ℕ) (old now : LiveModel) (event : Event) (reply : Reply) (owed : Bool) (notices : List Notice)
+        → IsSound old.board.state → PayloadFits event → IsTimed p old event now reply owed notices
         → IsSound now.board.state × Conserves old.board.state now.board.state notices }
 {}
 
 /// The same for a tick.
 pub fn a_tick_conserves_messages()
-    ensures { (old now : LiveModel) (moment : ℕ) (reply : Reply) (owed : List Bool) (notices late : List Notice) → IsSound old.board.state → IsTicked old moment now reply owed notices late
+    ensures { (old now : LiveModel) (moment : ℕ) (reply : Reply) (owed : List Bool) (notices late : List Notice)
+        → IsSound old.board.state → IsTicked old moment now reply owed notices late
         → IsSound now.board.state × Conserves old.board.state now.board.state (notices ++ late) }
 {}
 
 /// The same for a reset.
 pub fn a_reset_conserves_messages()
-    ensures { (p : ℕ) (old now : LiveModel) (reply : Reply) (notices : List Notice) → IsSound old.board.state → IsReset p old now reply notices → IsSound now.board.state × Conserves old.board.state now.board.state notices }
+    ensures { (p : ℕ) (old now : LiveModel) (reply : Reply) (notices : List Notice) → IsSound old.board.state
+        → IsReset p old now reply notices → IsSound now.board.state
+        × Conserves old.board.state now.board.state notices }
 {}
 
 /// The same for a look at the slots of a processor.
 pub fn a_look_conserves_messages()
-    ensures { (p : ℕ) (old now : LiveModel) (notices : List Notice) → IsSound old.board.state → IsObserved p old now notices → IsSound now.board.state × Conserves old.board.state now.board.state notices }
+    ensures { (p : ℕ) (old now : LiveModel) (notices : List Notice) → IsSound old.board.state
+        → IsObserved p old now notices → IsSound now.board.state × Conserves old.board.state now.board.state notices }
 {}
 
 /// A look at the slots of a processor changes own pages and the tickets in slots, and nothing else:
@@ -79,7 +88,8 @@ pub fn a_look_changes_only_pages()
 
 /// The same for all words of both pages of a processor.
 pub fn a_settle_conserves_messages()
-    ensures { (p : ℕ) (old now : LiveModel) (notices : List Notice) → IsSound old.board.state → IsSettled p old now notices → IsSound now.board.state × Conserves old.board.state now.board.state notices }
+    ensures { (p : ℕ) (old now : LiveModel) (notices : List Notice) → IsSound old.board.state
+        → IsSettled p old now notices → IsSound now.board.state × Conserves old.board.state now.board.state notices }
 {}
 
 /// All words of both pages of a processor change own pages and the tickets in slots, and nothing else.
@@ -92,13 +102,15 @@ pub fn a_settle_changes_only_pages()
 /// run of the reference model on the events of these calls, in their order and each once, with stores of
 /// words by the guest in between: the same state, replies and notices.
 pub fn a_run_of_calls_is_one_of_the_model()
-    ensures { (calls : List Call) (old now : LiveModel) → AreCalls old calls now → IsRunOf calls old.board.state now.board.state }
+    ensures { (calls : List Call) (old now : LiveModel) → AreCalls old calls now
+        → IsRunOf calls old.board.state now.board.state }
 {}
 
 /// A whole run conserves the messages: each one that was accepted in it is queued, in a slot, consumed or
 /// withdrawn, exactly once.
 pub fn a_run_of_calls_conserves_messages()
-    ensures { (calls : List Call) (old now : LiveModel) → IsSound old.board.state → All (λ (c : Call). PayloadFits c.event) calls → AreCalls old calls now
+    ensures { (calls : List Call) (old now : LiveModel) → IsSound old.board.state
+        → All (λ (c : Call). PayloadFits c.event) calls → AreCalls old calls now
         → IsSound now.board.state × Conserves old.board.state now.board.state (notices_of calls) }
 {}
 
@@ -111,14 +123,28 @@ pub fn a_run_of_calls_conserves_messages()
 /// write it later (`memory`). So a guest that empties the slot does it later, and finds MessagePending
 /// after its barrier: no steps of the protocol lead from there to a missed wake-up (`protocol`).
 pub fn a_waiting_message_is_marked()
-    ensures post { (old now : LiveModel) (port kind ticket : ℕ) (payload : ArrayVec ℕ) (target : Port) (notices : List Notice) → IsSound old.board.state → length payload.items ≤ 240 → HasShape now.board.state → HasRanges now.board.state → Shadows now.board.state now.pages
-        → IsLive old (Post port kind payload) now (Accepted ticket) notices → HasLookedAt port old now → port_at (ports_of old.board.state) port ≡ Some target → LeavesMarked target.vp target.sint old now }
-    ensures eom { (old now : LiveModel) (p i number value : ℕ) (reply : Reply) (notices : List Notice) → IsSound old.board.state → HasShape now.board.state → HasRanges now.board.state → Shadows now.board.state now.pages
-        → p < processors old.board.state → i < 16 → register_of number ≡ Some Eom → IsLive old (Write p number value) now reply notices → HasProbedAt p old now → LeavesMarked p i old now }
-    ensures timer { (old now : LiveModel) (p i number value : ℕ) (reply : Reply) (owed : Bool) (notices : List Notice) → IsSound old.board.state → HasShape now.board.state → HasRanges now.board.state → Shadows now.board.state now.pages
-        → p < processors old.board.state → i < 16 → is_timer_write (Write p number value) ≡ true → IsTimed p old (Write p number value) now reply owed notices → LeavesMarkedUnlessOwed p i old now owed }
-    ensures tick { (old now : LiveModel) (p i moment : ℕ) (reply : Reply) (owed : List Bool) (notices late : List Notice) → IsSound old.board.state → HasShape now.board.state → HasRanges now.board.state → Shadows now.board.state now.pages
-        → p < processors old.board.state → i < 16 → IsTicked old moment now reply owed notices late → LeavesMarkedUnlessOwed p i old now (slice_index_or owed p false) }
-    ensures memory { (i : ℕ) (log now : List Access) (turns : List Turn) → IsLeftMarked i log now → IsHistory turns → accesses turns ≡ now → WasMarked i log turns }
-    ensures protocol { (i : ℕ) (log now : List Access) (s : Slot) (steps : List Step) → IsLeftMarked i log now → MayFollow (known now (header i)) s → are_steps s steps ≡ true → is_stuck (led_to s steps) ≡ false }
+    ensures post { (old now : LiveModel) (port kind ticket : ℕ) (payload : ArrayVec ℕ) (target : Port)
+        (notices : List Notice) → IsSound old.board.state → length payload.items ≤ 240 → HasShape now.board.state
+        → HasRanges now.board.state → Shadows now.board.state now.pages
+        → IsLive old (Post port kind payload) now (Accepted ticket) notices → HasLookedAt port old now
+        → port_at (ports_of old.board.state) port ≡ Some target → LeavesMarked target.vp target.sint old now }
+    ensures eom { (old now : LiveModel) (p i number value : ℕ) (reply : Reply) (notices : List Notice)
+        → IsSound old.board.state → HasShape now.board.state → HasRanges now.board.state
+        → Shadows now.board.state now.pages
+        → p < processors old.board.state → i < 16 → register_of number ≡ Some Eom
+        → IsLive old (Write p number value) now reply notices → HasProbedAt p old now → LeavesMarked p i old now }
+    ensures timer { (old now : LiveModel) (p i number value : ℕ) (reply : Reply) (owed : Bool) (notices : List Notice)
+        → IsSound old.board.state → HasShape now.board.state → HasRanges now.board.state
+        → Shadows now.board.state now.pages
+        → p < processors old.board.state → i < 16 → is_timer_write (Write p number value) ≡ true
+        → IsTimed p old (Write p number value) now reply owed notices → LeavesMarkedUnlessOwed p i old now owed }
+    ensures tick { (old now : LiveModel) (p i moment : ℕ) (reply : Reply) (owed : List Bool)
+        (notices late : List Notice) → IsSound old.board.state → HasShape now.board.state → HasRanges now.board.state
+        → Shadows now.board.state now.pages
+        → p < processors old.board.state → i < 16 → IsTicked old moment now reply owed notices late
+        → LeavesMarkedUnlessOwed p i old now (slice_index_or owed p false) }
+    ensures memory { (i : ℕ) (log now : List Access) (turns : List Turn) → IsLeftMarked i log now → IsHistory turns
+        → accesses turns ≡ now → WasMarked i log turns }
+    ensures protocol { (i : ℕ) (log now : List Access) (s : Slot) (steps : List Step) → IsLeftMarked i log now
+        → MayFollow (known now (header i)) s → are_steps s steps ≡ true → is_stuck (led_to s steps) ≡ false }
 {}

@@ -135,7 +135,9 @@ impl LiveBoard {
     pub fn post(&mut self, port: u8, kind: u32, payload: &[u8], notices: &mut Notices) -> Reply
         requires { length payload.now ≤ 240 }
         ensures live { IsLive self.old (Post port kind (record { items = payload.now })) self.new result notices.new }
-        ensures looked { (target : Port) → port_at (ports_of self.old.board.state) port ≡ Some target → IsShown self.old.board.state target.vp Sim → HasLooked (32 * target.sint) (log_of self.old target.vp Sim) (log_of self.new target.vp Sim) }
+        ensures looked { (target : Port) → port_at (ports_of self.old.board.state) port ≡ Some target
+            → IsShown self.old.board.state target.vp Sim
+            → HasLooked (32 * target.sint) (log_of self.old target.vp Sim) (log_of self.new target.vp Sim) }
     {
         let LiveBoard {
             board,
@@ -170,7 +172,8 @@ impl LiveBoard {
     /// the flag was set. Any other signal is left to the caller. Out of line, with a result in a register.
     #[inline(never)]
     fn signal_seen(&mut self, port: u8, flag: u16, notices: &mut Notices) -> Option<bool>
-        ensures some { IfSome result (λ was. IsLive self.old (Signal port flag) self.new (signal_reply was) notices.new) }
+        ensures some { IfSome result
+            (λ was. IsLive self.old (Signal port flag) self.new (signal_reply was) notices.new) }
         ensures left { IfNone result (self.new ≡ self.old) }
         ensures unseen { IfNone result (IsUnseen self.old.board.state port flag) }
     {
@@ -230,7 +233,8 @@ impl LiveBoard {
     /// accessed. In line, so that this has no call.
     #[inline(always)]
     pub(crate) fn end_message(&mut self, vp: u8, value: u64, notices: &mut Notices) -> Reply
-        ensures { IsRegisterWrite (Some Eom) vp self.old (Write vp 0x40000084 value) self.new result none_owed notices.new }
+        ensures { IsRegisterWrite (Some Eom) vp self.old
+            (Write vp 0x40000084 value) self.new result none_owed notices.new }
     {
         if is_idle(self.board(), vp) {
             notices.clear();
@@ -243,7 +247,8 @@ impl LiveBoard {
     #[inline(never)]
     fn end_queued(&mut self, vp: u8, value: u64, notices: &mut Notices) -> Reply
         requires { vp < processors self.old.board.state → NoneQueued self.old.board.state vp → ⊥ }
-        ensures { IsRegisterWrite (Some Eom) vp self.old (Write vp 0x40000084 value) self.new result none_owed notices.new }
+        ensures { IsRegisterWrite (Some Eom) vp self.old
+            (Write vp 0x40000084 value) self.new result none_owed notices.new }
     {
         let register = msr::EOM;
         let event = Event::Write {
@@ -262,7 +267,8 @@ impl LiveBoard {
     fn end_event(&mut self, event: &Event, notices: &mut Notices) -> Reply
         requires { IsTrue (is_eom event.now) }
         ensures live { IsLive self.old event.now self.new result notices.new }
-        ensures probed { (p : ℕ) → eom_of self.old.board.state event.now ≡ Some p → IsShown self.old.board.state p Sim → HasProbed self.old.board.state p (log_of self.old p Sim) (log_of self.new p Sim) }
+        ensures probed { (p : ℕ) → eom_of self.old.board.state event.now ≡ Some p → IsShown self.old.board.state p Sim
+            → HasProbed self.old.board.state p (log_of self.old p Sim) (log_of self.new p Sim) }
         ensures nowhere { eom_of self.old.board.state event.now ≡ None → self.new.pages ≡ self.old.pages }
     {
         let LiveBoard {
@@ -288,8 +294,10 @@ impl LiveBoard {
     /// looks found, of the event, and of the stores that the or found.
     pub fn write_timer(&mut self, event: &Event, notices: &mut Notices) -> (Reply, bool)
         requires { IsTrue (is_timer_write event.now) }
-        ensures timed { (p : ℕ) → timer_of self.old.board.state event.now ≡ Some p → IsTimed p self.old event.now self.new result.0 result.1 notices.new }
-        ensures refused { timer_of self.old.board.state event.now ≡ None → IsQuietly self.old event.now self.new result.0 notices.new × (result.1 ≡ false) }
+        ensures timed { (p : ℕ) → timer_of self.old.board.state event.now ≡ Some p
+            → IsTimed p self.old event.now self.new result.0 result.1 notices.new }
+        ensures refused { timer_of self.old.board.state event.now ≡ None
+            → IsQuietly self.old event.now self.new result.0 notices.new × (result.1 ≡ false) }
     {
         let (number, register, value) = written(event);
         if self.write_direct(number, register, value, notices) {
@@ -301,9 +309,12 @@ impl LiveBoard {
     /// The same for a timer in message mode, or of a processor that is not on the board.
     pub(crate) fn write_posted(&mut self, event: &Event, notices: &mut Notices) -> (Reply, bool)
         requires timer { IsTrue (is_timer_write event.now) }
-        requires posted { (p : ℕ) → timer_of self.old.board.state event.now ≡ Some p → is_direct_write self.old.board.state event.now ≡ false }
-        ensures timed { (p : ℕ) → timer_of self.old.board.state event.now ≡ Some p → IsTimed p self.old event.now self.new result.0 result.1 notices.new }
-        ensures refused { timer_of self.old.board.state event.now ≡ None → IsQuietly self.old event.now self.new result.0 notices.new × (result.1 ≡ false) }
+        requires posted { (p : ℕ) → timer_of self.old.board.state event.now ≡ Some p
+            → is_direct_write self.old.board.state event.now ≡ false }
+        ensures timed { (p : ℕ) → timer_of self.old.board.state event.now ≡ Some p
+            → IsTimed p self.old event.now self.new result.0 result.1 notices.new }
+        ensures refused { timer_of self.old.board.state event.now ≡ None
+            → IsQuietly self.old event.now self.new result.0 notices.new × (result.1 ≡ false) }
     {
         let LiveBoard {
             board,
@@ -331,9 +342,12 @@ impl LiveBoard {
         notices: &mut Notices,
     ) -> bool
         requires { IsTimerWriteBy number (Write number register value) }
-        ensures done { result ≡ true → (nat_lt number (processors self.old.board.state) ≡ true) × IsTimed number self.old (Write number register value) self.new Done false notices.new }
+        ensures done { result ≡ true → (nat_lt number (processors self.old.board.state) ≡ true)
+            × IsTimed number self.old (Write number register value) self.new Done false notices.new }
         ensures left { result ≡ false → self.new ≡ self.old }
-        ensures posted { result ≡ false → (p : ℕ) → timer_of self.old.board.state (Write number register value) ≡ Some p → is_direct_write self.old.board.state (Write number register value) ≡ false }
+        ensures posted { result ≡ false → (p : ℕ)
+            → timer_of self.old.board.state (Write number register value) ≡ Some p
+            → is_direct_write self.old.board.state (Write number register value) ≡ false }
     {
         let LiveBoard {
             board,

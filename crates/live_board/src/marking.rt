@@ -63,10 +63,14 @@ pub(crate) fn mark_slots(
     requires on { vp < processors board.old.state }
     requires shown { IsShown board.old.state vp Sim }
     requires payload { (x : ℕ) → x < 512 → x % 32 ≢ 0 → known page.old x ≡ word_of board.old.state (2 * vp) x }
-    requires known { (i : ℕ) → i < 16 → type_of (slice_index words.now (32 * i)) ≢ 0 → known page.old (32 * i) ≡ slice_index words.now (32 * i) }
-    requires headers { (i : ℕ) → i < 16 → MayBeMarked (slice_index words.now (32 * i)) (known page.old (32 * i)) (word_of board.old.state (2 * vp) (32 * i)) }
+    requires known { (i : ℕ) → i < 16 → type_of (slice_index words.now (32 * i)) ≢ 0
+        → known page.old (32 * i) ≡ slice_index words.now (32 * i) }
+    requires headers { (i : ℕ) → i < 16
+        → MayBeMarked (slice_index words.now (32 * i)) (known page.old (32 * i))
+        (word_of board.old.state (2 * vp) (32 * i)) }
     requires capacity { length notices.old + 16 ≤ 320 }
-    ensures { IsMarking board.old.state vp words.now page.old board.new.state page.new result notices.old notices.new 16 }
+    ensures { IsMarking board.old.state vp words.now page.old board.new.state page.new result notices.old notices.new
+        16 }
 {
     let mut owed = false;
     for number in 0..SOURCES {

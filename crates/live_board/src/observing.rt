@@ -55,7 +55,8 @@ fn look_on(
     requires shown { IsShown board.old.state vp Sim }
     requires other { (log : List Access) × IsOther board.old.state vp other found log page.old }
     requires empty { notices.old ≡ [] }
-    ensures { (log : List Access) → IsOther board.old.state vp other found log page.old → IsLooks board.old.state vp log board.new.state page.new notices.new 16 }
+    ensures { (log : List Access) → IsOther board.old.state vp other found log page.old
+        → IsLooks board.old.state vp log board.new.state page.new notices.new 16 }
 {
     pass(board, vp, Kind::Sim, 32 * other, found, scratch, notices);
     for slot in other + 1..SLOTS {

@@ -158,7 +158,8 @@ pub(crate) fn mark(
     requires shown { IsShown board.old.state vp kind }
     requires known { known page.old word ≡ word_of board.old.state (overlay_of vp kind) word }
     requires capacity { length notices.old < 320 }
-    ensures { IsMark board.old.state vp kind word mask page.old board.new.state page.new result notices.old notices.new }
+    ensures { IsMark board.old.state vp kind word mask page.old board.new.state page.new result notices.old
+        notices.new }
 {
     let found = page.fetch_or(word, mask);
     pass(board, vp, kind, word, found, scratch, notices);

@@ -51,7 +51,8 @@ fn find_header(
     requires shown { IsShown board.old.state port.now.vp Sim }
     requires shadow { IsShadow board.old.state (2 * port.now.vp) page.old }
     requires capacity { length notices.old < 319 }
-    ensures { IsFound board.old.state number kind port.now page.old board.new.state page.new result.0 result.1 notices.old notices.new }
+    ensures { IsFound board.old.state number kind port.now page.old board.new.state page.new result.0 result.1
+        notices.old notices.new }
 {
     let slot = 32 * usize::from(port.sint.number());
     let found = look(board, page, port.vp, Kind::Sim, slot, scratch, notices);
@@ -82,7 +83,8 @@ fn perform_post(
 ) -> Reply
     requires fits { length payload.now ≤ 240 }
     requires capacity { length notices.old ≤ 2 }
-    ensures { IsStep board.old.state (Post number kind (record { items = payload.now })) board.new.state result notices.old notices.new }
+    ensures { IsStep board.old.state
+        (Post number kind (record { items = payload.now })) board.new.state result notices.old notices.new }
 {
     if notices.as_slice().is_empty() {
         return board.post(number, kind, payload, notices);
@@ -109,9 +111,11 @@ fn post_into(
     requires source { port.now.sint < 16 }
     requires fits { length payload.now ≤ 240 }
     requires left { known page.old (32 * port.now.sint) ≡ left }
-    requires others { (x : ℕ) → x < 512 → x ≢ 32 * port.now.sint → known page.old x ≡ word_of board.old.state (2 * port.now.vp) x }
+    requires others { (x : ℕ) → x < 512 → x ≢ 32 * port.now.sint
+        → known page.old x ≡ word_of board.old.state (2 * port.now.vp) x }
     requires capacity { length notices.old ≤ 2 }
-    ensures { IsInto port.now left board.old.state page.old (Post number kind (record { items = payload.now })) board.new.state page.new result notices.old notices.new }
+    ensures { IsInto port.now left board.old.state page.old
+        (Post number kind (record { items = payload.now })) board.new.state page.new result notices.old notices.new }
 {
     board.facts();
     let before = slot_words(board, port.vp, port.sint);
@@ -138,7 +142,8 @@ fn post_shown(
     requires shown { IsShown board.old.state port.now.vp Sim }
     requires shadow { IsShadow board.old.state (2 * port.now.vp) page.old }
     requires empty { notices.old ≡ [] }
-    ensures part { IsPart board.old.state port.now.vp Sim page.old (Post number kind (record { items = payload.now })) board.new.state page.new result notices.new }
+    ensures part { IsPart board.old.state port.now.vp Sim page.old
+        (Post number kind (record { items = payload.now })) board.new.state page.new result notices.new }
     ensures looked { HasLooked (32 * port.now.sint) page.old page.new }
 {
     let (header, left) = find_header(board, page, port, number, kind, scratch, notices);
@@ -168,7 +173,8 @@ fn post_hidden(
     requires hidden { IsShown board.old.state port.now.vp Sim → ⊥ }
     requires shadow { IsShadow board.old.state (2 * port.now.vp) page.old }
     requires empty { notices.old ≡ [] }
-    ensures { IsPart board.old.state port.now.vp Sim page.old (Post number kind (record { items = payload.now })) board.new.state page.new result notices.new }
+    ensures { IsPart board.old.state port.now.vp Sim page.old
+        (Post number kind (record { items = payload.now })) board.new.state page.new result notices.new }
 {
     board.facts();
     let header = own_word(
@@ -198,7 +204,8 @@ pub(crate) fn post_to(
     requires fits { length payload.now ≤ 240 }
     requires shadow { IsShadow board.old.state (2 * port.now.vp) page.old }
     requires empty { notices.old ≡ [] }
-    ensures part { IsPart board.old.state port.now.vp Sim page.old (Post number kind (record { items = payload.now })) board.new.state page.new result notices.new }
+    ensures part { IsPart board.old.state port.now.vp Sim page.old
+        (Post number kind (record { items = payload.now })) board.new.state page.new result notices.new }
     ensures looked { IsShown board.old.state port.now.vp Sim → HasLooked (32 * port.now.sint) page.old page.new }
 {
     if is_shown(board, port.vp, Kind::Sim) {

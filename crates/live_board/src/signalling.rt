@@ -71,7 +71,8 @@ pub(crate) fn signal_shown(
     requires shown { IsShown board.old.state port.now.vp Sief }
     requires shadow { IsShadow board.old.state (2 * port.now.vp + 1) page.old }
     requires empty { notices.old ≡ [] }
-    ensures { IsPart board.old.state port.now.vp Sief page.old (Signal number flag) board.new.state page.new (signal_reply result) notices.new }
+    ensures { IsPart board.old.state port.now.vp Sief page.old (Signal number flag) board.new.state page.new
+        (signal_reply result) notices.new }
 {
     board.facts();
     let word = 32 * usize::from(port.sint.number()) + usize::from(place / 64);
@@ -114,7 +115,8 @@ fn signal_hidden(
     requires hidden { IsShown board.old.state port.now.vp Sief → ⊥ }
     requires shadow { IsShadow board.old.state (2 * port.now.vp + 1) page.old }
     requires empty { notices.old ≡ [] }
-    ensures { IsPart board.old.state port.now.vp Sief page.old (Signal number flag) board.new.state page.new result notices.new }
+    ensures { IsPart board.old.state port.now.vp Sief page.old
+        (Signal number flag) board.new.state page.new result notices.new }
 {
     board.facts();
     let word = 32 * usize::from(port.sint.number()) + usize::from(place / 64);
@@ -136,10 +138,12 @@ pub(crate) fn signal_to(
 ) -> Reply
     requires open { port_at (ports_of board.old.state) number ≡ Some port.now }
     requires on { port.now.vp < processors board.old.state }
-    requires hidden { (f : ℕ) → signalled_flag board.old.state flag port.now ≡ Some f → IsShown board.old.state port.now.vp Sief → ⊥ }
+    requires hidden { (f : ℕ) → signalled_flag board.old.state flag port.now ≡ Some f
+        → IsShown board.old.state port.now.vp Sief → ⊥ }
     requires shadow { IsShadow board.old.state (2 * port.now.vp + 1) page.old }
     requires empty { notices.old ≡ [] }
-    ensures { IsPart board.old.state port.now.vp Sief page.old (Signal number flag) board.new.state page.new result notices.new }
+    ensures { IsPart board.old.state port.now.vp Sief page.old
+        (Signal number flag) board.new.state page.new result notices.new }
 {
     board.facts();
     let Some(place) = flag_of(board, number, flag, port) else {

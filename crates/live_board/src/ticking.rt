@@ -36,7 +36,8 @@ pub(crate) fn is_any_due(board: &Board, moment: Moment) -> bool
 /// Whether a timer, 0 to 3, is due at a time and in message mode.
 fn is_due_posted(board: &Board, vp: Vp, index: u8, moment: Moment) -> bool
     requires { index < 4 }
-    ensures { result ≡ (is_due (timer_in (bank_of board.now.state) (vp, index)) moment && not (is_direct (timer_in (bank_of board.now.state) (vp, index)).config)) }
+    ensures { result ≡ (is_due (timer_in (bank_of board.now.state) (vp, index)) moment
+        && not (is_direct (timer_in (bank_of board.now.state) (vp, index)).config)) }
 {
     let Some(timer) = TimerId::new(vp, index) else {
         unreachable!()
@@ -112,10 +113,12 @@ fn look_at_all(
 )
     requires few { processors board.old.state ≤ 8 }
     requires count { length pages.old.items ≡ 2 * processors board.old.state }
-    requires shadow { (p : ℕ) → p < processors board.old.state → IsShadow board.old.state (2 * p) (slice_index_or pages.old.items (2 * p) []) }
+    requires shadow { (p : ℕ) → p < processors board.old.state
+        → IsShadow board.old.state (2 * p) (slice_index_or pages.old.items (2 * p) []) }
     requires fresh { notices.old ≡ [] }
     requires empty { late.old ≡ [] }
-    ensures looks { HaveLooked board.old.state pages.old.items (processors board.old.state) board.new.state pages.new.items notices.new }
+    ensures looks { HaveLooked board.old.state pages.old.items
+        (processors board.old.state) board.new.state pages.new.items notices.new }
     ensures empty { late.new ≡ [] }
 {
     board.facts();
@@ -141,12 +144,14 @@ pub(crate) fn tick_direct(
 )
     requires few { processors board.old.state ≤ 8 }
     requires count { length pages.old.items ≡ 2 * processors board.old.state }
-    requires shadow { (p : ℕ) → p < processors board.old.state → IsShadow board.old.state (2 * p) (slice_index_or pages.old.items (2 * p) []) }
+    requires shadow { (p : ℕ) → p < processors board.old.state
+        → IsShadow board.old.state (2 * p) (slice_index_or pages.old.items (2 * p) []) }
     requires onward { board.old.state.moment ≤ moment }
     requires direct { (p : ℕ) → p < processors board.old.state → AreDueDirect board.old.state p moment }
     requires fresh { notices.old ≡ [] }
     requires empty { late.old ≡ [] }
-    ensures { IsTickFrom board.old.state 0 (processors board.old.state) pages.old.items (Tick moment) board.new.state pages.new.items Done none_owed [] notices.new late.new }
+    ensures { IsTickFrom board.old.state 0 (processors board.old.state) pages.old.items
+        (Tick moment) board.new.state pages.new.items Done none_owed [] notices.new late.new }
 {
     look_at_all(board, pages, scratch, notices, late);
     board.facts();
@@ -193,10 +198,12 @@ pub(crate) fn tick_from(
     requires few { processors board.old.state ≤ 8 }
     requires on { number ≤ processors board.old.state }
     requires count { length pages.old.items ≡ 2 * processors board.old.state }
-    requires shadow { (p : ℕ) → number ≤ p → p < processors board.old.state → IsShadow board.old.state (2 * p) (slice_index_or pages.old.items (2 * p) []) }
+    requires shadow { (p : ℕ) → number ≤ p → p < processors board.old.state
+        → IsShadow board.old.state (2 * p) (slice_index_or pages.old.items (2 * p) []) }
     requires capacity { length notices.old + 16 * (processors board.old.state - number) + 192 ≤ 320 }
     requires empty { late.old ≡ [] }
-    ensures { IsTickFrom board.old.state number (processors board.old.state - number) pages.old.items (Tick moment) board.new.state pages.new.items result.0 result.1 notices.old notices.new late.new }
+    ensures { IsTickFrom board.old.state number (processors board.old.state - number) pages.old.items
+        (Tick moment) board.new.state pages.new.items result.0 result.1 notices.old notices.new late.new }
 {
     board.facts();
     if number >= board.processors() {
@@ -230,10 +237,12 @@ fn tick_posted(
     requires posted { AreDueDirect board.old.state vp moment → ⊥ }
     requires on { vp < processors board.old.state }
     requires count { length pages.old.items ≡ 2 * processors board.old.state }
-    requires shadow { (p : ℕ) → vp ≤ p → p < processors board.old.state → IsShadow board.old.state (2 * p) (slice_index_or pages.old.items (2 * p) []) }
+    requires shadow { (p : ℕ) → vp ≤ p → p < processors board.old.state
+        → IsShadow board.old.state (2 * p) (slice_index_or pages.old.items (2 * p) []) }
     requires capacity { length notices.old + 16 * (processors board.old.state - vp) + 192 ≤ 320 }
     requires empty { late.old ≡ [] }
-    ensures { IsTickFrom board.old.state vp (processors board.old.state - vp) pages.old.items (Tick moment) board.new.state pages.new.items result.0 result.1 notices.old notices.new late.new }
+    ensures { IsTickFrom board.old.state vp (processors board.old.state - vp) pages.old.items
+        (Tick moment) board.new.state pages.new.items result.0 result.1 notices.old notices.new late.new }
 {
     board.facts();
     let number = vp.number();

@@ -151,7 +151,8 @@ pub(crate) fn time_direct(
     requires direct { is_direct_write board.old.state (Write number register value) ≡ true }
     requires shadow { IsShadow board.old.state (2 * vp) page.old }
     requires empty { notices.old ≡ [] }
-    ensures { IsTimedPart board.old.state vp page.old (Write number register value) board.new.state page.new Done false notices.new }
+    ensures { IsTimedPart board.old.state vp page.old
+        (Write number register value) board.new.state page.new Done false notices.new }
 {
     view_slots(board, page, vp, scratch, notices);
     board.facts();

@@ -8,4 +8,6 @@ use Rattle.live_pages.specs.contracts.access.Access as access
 use Rattle.live_board.specs.Live.{LiveModel}
 
 abbrev pub live_code : Coded LiveModel
-live_code = code_by (BoardModel × List (List Access)) (coded× model_code (coded_list (coded_list access.the_row.coded))) (λ m. (m.board, m.pages)) (λ p. record { board = p.0; pages = p.1 }) (λ _. refl)
+live_code = code_by (BoardModel × List (List Access))
+    (coded× model_code (coded_list (coded_list access.the_row.coded))) (λ m. (m.board, m.pages))
+    (λ p. record { board = p.0; pages = p.1 }) (λ _. refl)

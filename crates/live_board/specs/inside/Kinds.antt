@@ -1,4 +1,5 @@
--- The events that change no own page of a board, and those that may deliver messages to one processor. Callers need neither.
+-- The events that change no own page of a board, and those that may deliver messages to one processor. Callers need
+-- neither.
 use Rattle.std.specs.Prelude.{◌≡◌, ℕ, ◌&&◌, Bool, true, false, nat_lt, Option, None, Some, if◌then◌else◌}
 use Rattle.std.specs.Option.{option_map_or}
 use Rattle.synic_regs.specs.declared.register.Register.{Register}
@@ -42,7 +43,8 @@ is_eom _ = false
 
 -- the processor that writes EOM, if it is on the board
 abbrev pub eom_of : State → Event → Option ℕ
-eom_of s (Write p number value) = if option_map_or is_eom_register (register_of number) false && nat_lt p (processors s) then Some p else None
+eom_of s (Write p number value) =
+    if option_map_or is_eom_register (register_of number) false && nat_lt p (processors s) then Some p else None
 eom_of s _ = None
 
 -- a write of a timer of a processor, on the board or not

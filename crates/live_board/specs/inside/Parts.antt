@@ -38,7 +38,8 @@ found_stores s p k w value = if value == word_of s (overlay_of p k) w then [] el
 
 -- the reference model performs the store that a word shows, if any
 abbrev pub IsPassed : State → ℕ → Kind → ℕ → ℕ → State → List Notice → Type 0
-IsPassed s p k w value now notices = run_of s (found_stores s p k w value) ≡ (now, all_done (found_stores s p k w value), notices)
+IsPassed s p k w value now notices =
+    run_of s (found_stores s p k w value) ≡ (now, all_done (found_stores s p k w value), notices)
 
 -- a state after a word of an own page was passed
 pub record HasWord (s : State) (o w value : ℕ) (now : State) : Type 0 where
@@ -57,7 +58,8 @@ abbrev pub LeavesOthers : State → ℕ → State → Type 0
 LeavesOthers s o now = (j w : ℕ) → w < 512 → j ≢ o → word_of now j w ≡ word_of s j w
 
 -- a word was passed, and its notices follow those before
-pub record IsPassedOn (s : State) (p : ℕ) (k : Kind) (w value : ℕ) (now : State) (before after : List Notice) : Type 0 where
+pub record IsPassedOn (s : State) (p : ℕ) (k : Kind) (w value : ℕ) (now : State)
+    (before after : List Notice) : Type 0 where
   pub emitted : List Notice
   pub notices : after ≡ before ++ emitted
   pub few : length emitted ≤ 1
@@ -65,7 +67,8 @@ pub record IsPassedOn (s : State) (p : ℕ) (k : Kind) (w value : ℕ) (now : St
   pub word : HasWord s (overlay_of p k) w value now
 
 -- some looks at an own page: the state then, with the notices of the stores that they show
-pub record IsWatched (s : State) (p : ℕ) (k : Kind) (log : List Access) (now : State) (log_now : List Access) (notices : List Notice) : Type 0 where
+pub record IsWatched (s : State) (p : ℕ) (k : Kind) (log : List Access) (now : State) (log_now : List Access)
+    (notices : List Notice) : Type 0 where
   pub news : List Access
   pub page : log_now ≡ news ++ log
   pub run : run_of s (explained s p k news log) ≡ (now, all_done (explained s p k news log), notices)
@@ -76,7 +79,8 @@ pub record IsWatched (s : State) (p : ℕ) (k : Kind) (log : List Access) (now :
   pub same : (j : ℕ) → j ≢ overlay_of p k → slice_index_or now.own j [] ≡ slice_index_or s.own j []
 
 -- one look at a word, after which the page is a shadow if it was one
-pub record IsLook (s : State) (p : ℕ) (k : Kind) (w : ℕ) (log : List Access) (now : State) (log_now : List Access) (found : ℕ) (before after : List Notice) : Type 0 where
+pub record IsLook (s : State) (p : ℕ) (k : Kind) (w : ℕ) (log : List Access) (now : State) (log_now : List Access)
+    (found : ℕ) (before after : List Notice) : Type 0 where
   pub emitted : List Notice
   pub notices : after ≡ before ++ emitted
   pub few : length emitted ≤ 1
@@ -89,7 +93,8 @@ pub record IsLook (s : State) (p : ℕ) (k : Kind) (w : ℕ) (log : List Access)
   pub shadow : IsShadow s (overlay_of p k) log → IsShadow now (overlay_of p k) log_now
 
 -- an atomic or of a word
-pub record IsMark (s : State) (p : ℕ) (k : Kind) (w mask : ℕ) (log : List Access) (now : State) (log_now : List Access) (found : ℕ) (before after : List Notice) : Type 0 where
+pub record IsMark (s : State) (p : ℕ) (k : Kind) (w mask : ℕ) (log : List Access) (now : State)
+    (log_now : List Access) (found : ℕ) (before after : List Notice) : Type 0 where
   pub emitted : List Notice
   pub notices : after ≡ before ++ emitted
   pub few : length emitted ≤ 1
@@ -102,15 +107,19 @@ pub record IsMark (s : State) (p : ℕ) (k : Kind) (w mask : ℕ) (log : List Ac
 
 -- a post to an open port makes a delivery attempt
 abbrev pub is_attempted : State → ℕ → ℕ → Port → Bool
-is_attempted s number kind port = ((takes_messages port.shape && is_posted_type kind) && is_none (post_refusal s number port.vp port.shape)) && delivers s port.vp
+is_attempted s number kind port =
+    ((takes_messages port.shape && is_posted_type kind) && is_none (post_refusal s number port.vp port.shape))
+    && delivers s port.vp
 
--- the words of own pages after what attempts at most at one source: those of other slots stay; if nothing is attempted all stay;
+-- the words of own pages after what attempts at most at one source: those of other slots stay; if nothing is
+-- attempted all stay;
 -- an occupied slot is marked
 pub record Attempts (s : State) (p i : ℕ) (made : Bool) (now : State) : Type 0 where
   pub count : length now.own ≡ length s.own
   pub others : (j x : ℕ) → x < 512 → (j ≢ 2 * p) ⊎ (x / 32 ≢ i) → word_of now j x ≡ word_of s j x
   pub idle : made ≡ false → (j x : ℕ) → word_of now j x ≡ word_of s j x
-  pub marks : made ≡ true → is_slot_empty s p i ≡ false → (x : ℕ) → x < 512 → word_of now (2 * p) x ≡ (if x == 32 * i then bit_or (word_of s (2 * p) x) (2 ^ 40) else word_of s (2 * p) x)
+  pub marks : made ≡ true → is_slot_empty s p i ≡ false → (x : ℕ) → x < 512
+      → word_of now (2 * p) x ≡ (if x == 32 * i then bit_or (word_of s (2 * p) x) (2 ^ 40) else word_of s (2 * p) x)
 
 -- the words of a slot
 abbrev pub AreSlotWords : State → ℕ → ℕ → List ℕ → Type 0
@@ -137,7 +146,8 @@ pub record IsFilling (i header : ℕ) (before after : List ℕ) (k : ℕ) (log n
   pub others : (x : ℕ) → x / 32 ≢ i → known now x ≡ known log x
 
 -- the header of a port's slot was found, and is marked if a post makes an attempt there that finds it occupied
-pub record IsFound (s : State) (number kind : ℕ) (port : Port) (log : List Access) (now : State) (log_now : List Access) (header left : ℕ) (before after : List Notice) : Type 0 where
+pub record IsFound (s : State) (number kind : ℕ) (port : Port) (log : List Access) (now : State)
+    (log_now : List Access) (header left : ℕ) (before after : List Notice) : Type 0 where
   pub emitted : List Notice
   pub notices : after ≡ before ++ emitted
   pub few : length emitted ≤ 2
@@ -146,7 +156,9 @@ pub record IsFound (s : State) (number kind : ℕ) (port : Port) (log : List Acc
   pub known_here : known log_now (32 * port.sint) ≡ left
   pub others : (x : ℕ) → x < 512 → x ≢ 32 * port.sint → known log_now x ≡ word_of now (2 * port.vp) x
   pub looked : HasLooked (32 * port.sint) log log_now
-  pub exact : ((left ≡ header) × ((type_of header ≡ 0) ⊎ ((is_pending header ≡ true) ⊎ (is_attempted s number kind port ≡ false)))) ⊎ ((left ≡ bit_or header (2 ^ 40)) × (is_attempted s number kind port ≡ true))
+  pub exact : ((left ≡ header)
+      × ((type_of header ≡ 0) ⊎ ((is_pending header ≡ true) ⊎ (is_attempted s number kind port ≡ false))))
+      ⊎ ((left ≡ bit_or header (2 ^ 40)) × (is_attempted s number kind port ≡ true))
 
 -- an event, with its notices after those before
 pub record IsStep (s : State) (event : Event) (now : State) (reply : Reply) (before after : List Notice) : Type 0 where
@@ -156,17 +168,20 @@ pub record IsStep (s : State) (event : Event) (now : State) (reply : Reply) (bef
   pub bound : length emitted ≤ most_notices event
 
 -- an event, after which the slot of a port is filled
-pub record IsInto (port : Port) (left : ℕ) (s : State) (log : List Access) (event : Event) (now : State) (log_now : List Access) (reply : Reply) (before after : List Notice) : Type 0 where
+pub record IsInto (port : Port) (left : ℕ) (s : State) (log : List Access) (event : Event) (now : State)
+    (log_now : List Access) (reply : Reply) (before after : List Notice) : Type 0 where
   pub step : IsStep s event now reply before after
   pub words : List ℕ
   pub are : AreSlotWords now port.vp port.sint words
   pub filled : IsFilled port.sint left words log log_now
 
 -- a call on one page: the guest's stores that its accesses show, and then an event
-pub record IsPart (s : State) (p : ℕ) (k : Kind) (log : List Access) (event : Event) (now : State) (log_now : List Access) (reply : Reply) (notices : List Notice) : Type 0 where
+pub record IsPart (s : State) (p : ℕ) (k : Kind) (log : List Access) (event : Event) (now : State)
+    (log_now : List Access) (reply : Reply) (notices : List Notice) : Type 0 where
   pub news : List Access
   pub page : log_now ≡ news ++ log
-  pub run : run_of s (explained s p k news log ++ event ∷ []) ≡ (now, all_done (explained s p k news log) ++ reply ∷ [], notices)
+  pub run : run_of s (explained s p k news log ++ event ∷ [])
+      ≡ (now, all_done (explained s p k news log) ++ reply ∷ [], notices)
   pub careful : IsShown s p k → AreCareful k news log
   pub shadow : IsShadow now (overlay_of p k) log_now
   pub others : LeavesOthers s (overlay_of p k) now
@@ -175,7 +190,9 @@ pub record IsPart (s : State) (p : ℕ) (k : Kind) (log : List Access) (event : 
 -- the flag that a signal of an open port sets, if it is accepted
 abbrev pub flag_by : State → ℕ → ℕ → PortShape → Option ℕ
 flag_by s p flag (Messages buffers) = None
-flag_by s p flag (Flags base count) = if nat_lt flag count && (has (regs_of s p).control enable && has (regs_of s p).sief enable) then Some (base + flag) else None
+flag_by s p flag (Flags base count) =
+    if nat_lt flag count && (has (regs_of s p).control enable && has (regs_of s p).sief enable)
+    then Some (base + flag) else None
 
 abbrev pub signalled_flag : State → ℕ → Port → Option ℕ
 signalled_flag s flag port = flag_by s port.vp flag port.shape
@@ -187,10 +204,13 @@ signal_reply false = FlagWasClear
 
 -- a signal that the board refuses, or of a flag in a page that the guest does not see
 abbrev pub IsUnseen : State → ℕ → ℕ → Type 0
-IsUnseen s number flag = (port : Port) (f : ℕ) → port_at (ports_of s) number ≡ Some port → signalled_flag s flag port ≡ Some f → IsShown s port.vp Sief → ⊥
+IsUnseen s number flag =
+    (port : Port) (f : ℕ) → port_at (ports_of s) number ≡ Some port → signalled_flag s flag port ≡ Some f
+    → IsShown s port.vp Sief → ⊥
 
 -- looks at the headers of the slots below n of a message page, after which it is a shadow
-pub record IsLooks (s : State) (p : ℕ) (log : List Access) (now : State) (log_now : List Access) (notices : List Notice) (n : ℕ) : Type 0 where
+pub record IsLooks (s : State) (p : ℕ) (log : List Access) (now : State) (log_now : List Access)
+    (notices : List Notice) (n : ℕ) : Type 0 where
   pub watched : IsWatched s p Sim log now log_now notices
   pub shadow : IsShadow now (2 * p) log_now
   pub few : length notices ≤ n
@@ -204,15 +224,18 @@ pub record IsOther (s : State) (p n found : ℕ) (log log_now : List Access) : T
   pub page : log_now ≡ Load (32 * n) found ∷ same
 
 -- a look at each slot of a message page, if the guest sees it
-pub record IsViewed (s : State) (p : ℕ) (log : List Access) (now : State) (log_now : List Access) (notices : List Notice) : Type 0 where
+pub record IsViewed (s : State) (p : ℕ) (log : List Access) (now : State) (log_now : List Access)
+    (notices : List Notice) : Type 0 where
   pub watched : IsWatched s p Sim log now log_now notices
   pub shadow : IsShadow now (2 * p) log_now
   pub few : length notices ≤ 16
   pub shown : IsShown s p Sim → AreLooks 16 watched.news
   pub hidden : (IsShown s p Sim → ⊥) → watched.news ≡ []
 
--- loads of the words below n of an own page, after which it is a shadow. Only a word with a type may show that a message was consumed
-pub record IsLoads (s : State) (p : ℕ) (k : Kind) (log : List Access) (now : State) (log_now : List Access) (before after : List Notice) (n : ℕ) : Type 0 where
+-- loads of the words below n of an own page, after which it is a shadow. Only a word with a type may show that a
+-- message was consumed
+pub record IsLoads (s : State) (p : ℕ) (k : Kind) (log : List Access) (now : State) (log_now : List Access)
+    (before after : List Notice) (n : ℕ) : Type 0 where
   pub emitted : List Notice
   pub notices : after ≡ before ++ emitted
   pub few : length emitted ≤ (n + 31) / 32
@@ -221,7 +244,8 @@ pub record IsLoads (s : State) (p : ℕ) (k : Kind) (log : List Access) (now : S
   pub loads : AreLoads n watched.news
 
 -- loads of all words of an own page, if the guest sees it
-pub record IsLoaded (s : State) (p : ℕ) (k : Kind) (log : List Access) (now : State) (log_now : List Access) (before after : List Notice) : Type 0 where
+pub record IsLoaded (s : State) (p : ℕ) (k : Kind) (log : List Access) (now : State) (log_now : List Access)
+    (before after : List Notice) : Type 0 where
   pub emitted : List Notice
   pub notices : after ≡ before ++ emitted
   pub few : length emitted ≤ 16
@@ -235,7 +259,8 @@ IsLeft true header left = ((type_of header ≡ 0) × (type_of left ≡ 0)) ⊎ (
 IsLeft false header left = left ≡ header
 
 -- one probe of a slot
-pub record IsProbed (s : State) (p i : ℕ) (log : List Access) (now : State) (log_now : List Access) (left : ℕ) (before after : List Notice) : Type 0 where
+pub record IsProbed (s : State) (p i : ℕ) (log : List Access) (now : State) (log_now : List Access) (left : ℕ)
+    (before after : List Notice) : Type 0 where
   pub emitted : List Notice
   pub notices : after ≡ before ++ emitted
   pub few : length emitted ≤ 2
@@ -247,7 +272,8 @@ pub record IsProbed (s : State) (p i : ℕ) (log : List Access) (now : State) (l
   pub exact : IsLeft true (word_of now (2 * p) (32 * i)) left
 
 -- probes of the slots below n whose sources wait, after which the words are what the host knows
-pub record IsProbing (s : State) (p : ℕ) (log : List Access) (now : State) (log_now : List Access) (words : List ℕ) (notices : List Notice) (n : ℕ) : Type 0 where
+pub record IsProbing (s : State) (p : ℕ) (log : List Access) (now : State) (log_now : List Access) (words : List ℕ)
+    (notices : List Notice) (n : ℕ) : Type 0 where
   pub watched : IsWatched s p Sim log now log_now notices
   pub probes : AreProbes s p n watched.news
   pub few : length notices ≤ 2 * n
@@ -264,22 +290,31 @@ pub record IsFilledFrom (s : State) (p i header : ℕ) (log now : List Access) :
 
 -- each slot is as the host knows it if its header is
 abbrev pub AreKept : State → ℕ → List ℕ → Type 0
-AreKept s p words = (i : ℕ) → i < 16 → slice_index words (32 * i) ≡ word_of s (2 * p) (32 * i) → (w : ℕ) → w < 32 → slice_index words (32 * i + w) ≡ word_of s (2 * p) (32 * i + w)
+AreKept s p words =
+    (i : ℕ) → i < 16 → slice_index words (32 * i) ≡ word_of s (2 * p) (32 * i) → (w : ℕ) → w < 32
+    → slice_index words (32 * i + w) ≡ word_of s (2 * p) (32 * i + w)
 
--- the slots below n of a message page have the words of a state, except for the occupied ones of a page that the guest sees
-pub record IsPublished (s : State) (p : ℕ) (shown : Bool) (words : List ℕ) (n : ℕ) (log now : List Access) : Type 0 where
+-- the slots below n of a message page have the words of a state, except for the occupied ones of a page that the
+-- guest sees
+pub record IsPublished (s : State) (p : ℕ) (shown : Bool) (words : List ℕ) (n : ℕ)
+    (log now : List Access) : Type 0 where
   pub news : List Access
   pub page : now ≡ news ++ log
   pub stores : AreStores news
   pub careful : shown ≡ true → AreCareful Sim news log
-  pub done : (x : ℕ) → x < 512 → x / 32 < n → (shown ≡ false) ⊎ (type_of (slice_index words (32 * (x / 32))) ≡ 0) → known now x ≡ word_of s (2 * p) x
-  pub left : (x : ℕ) → x < 512 → (n ≤ x / 32) ⊎ ((shown ≡ true) × (type_of (slice_index words (32 * (x / 32))) ≢ 0)) → known now x ≡ known log x
+  pub done : (x : ℕ) → x < 512 → x / 32 < n → (shown ≡ false) ⊎ (type_of (slice_index words (32 * (x / 32))) ≡ 0)
+      → known now x ≡ word_of s (2 * p) x
+  pub left : (x : ℕ) → x < 512 → (n ≤ x / 32) ⊎ ((shown ≡ true) × (type_of (slice_index words (32 * (x / 32))) ≢ 0))
+      → known now x ≡ known log x
 
 -- the words of a source's slot after an EOM
 pub record SlotEnds (s : State) (p i : ℕ) (now : State) : Type 0 where
-  pub idle : is_waiting s p i ≡ false → (w : ℕ) → w < 32 → word_of now (2 * p) (32 * i + w) ≡ word_of s (2 * p) (32 * i + w)
-  pub marks : is_waiting s p i ≡ true → is_slot_empty s p i ≡ false → word_of now (2 * p) (32 * i) ≡ bit_or (word_of s (2 * p) (32 * i)) (2 ^ 40)
-  pub payload : is_waiting s p i ≡ true → is_slot_empty s p i ≡ false → (w : ℕ) → 1 ≤ w → w < 32 → word_of now (2 * p) (32 * i + w) ≡ word_of s (2 * p) (32 * i + w)
+  pub idle : is_waiting s p i ≡ false → (w : ℕ) → w < 32
+      → word_of now (2 * p) (32 * i + w) ≡ word_of s (2 * p) (32 * i + w)
+  pub marks : is_waiting s p i ≡ true → is_slot_empty s p i ≡ false
+      → word_of now (2 * p) (32 * i) ≡ bit_or (word_of s (2 * p) (32 * i)) (2 ^ 40)
+  pub payload : is_waiting s p i ≡ true → is_slot_empty s p i ≡ false → (w : ℕ) → 1 ≤ w → w < 32
+      → word_of now (2 * p) (32 * i + w) ≡ word_of s (2 * p) (32 * i + w)
   pub fills : is_waiting s p i ≡ true → is_slot_empty s p i ≡ true → is_slot_empty now p i ≡ false
 
 -- the words of own pages after an EOM
@@ -295,7 +330,8 @@ IsEomOf s p _ = ⊥
 
 -- an event is a write of a timer of a processor on the board
 abbrev pub IsTimerOf : State → ℕ → Event → Type 0
-IsTimerOf s p (Write q number value) = (p < processors s) × (q ≡ p) × (option_map_or is_timer_register (register_of number) false ≡ true)
+IsTimerOf s p (Write q number value) =
+    (p < processors s) × (q ≡ p) × (option_map_or is_timer_register (register_of number) false ≡ true)
 IsTimerOf s p _ = ⊥
 
 -- a header that an event may have marked: what the host knew before it, what it knows now, and what the board has
@@ -303,7 +339,8 @@ abbrev pub MayBeMarked : ℕ → ℕ → ℕ → Type 0
 MayBeMarked was left header = (left ≡ header) ⊎ ((type_of was ≢ 0) × (header ≡ bit_or was (2 ^ 40)))
 
 -- a slot is marked if the event has marked it
-pub record IsMarked (s : State) (p i : ℕ) (log : List Access) (now : State) (log_now : List Access) (owed : Bool) (before after : List Notice) : Type 0 where
+pub record IsMarked (s : State) (p i : ℕ) (log : List Access) (now : State) (log_now : List Access) (owed : Bool)
+    (before after : List Notice) : Type 0 where
   pub emitted : List Notice
   pub notices : after ≡ before ++ emitted
   pub few : length emitted ≤ 1
@@ -317,7 +354,8 @@ pub record IsMarked (s : State) (p i : ℕ) (log : List Access) (now : State) (l
   pub owes : owed ≡ finds_empty news
 
 -- the slots below n are marked where the event has marked them
-pub record IsMarking (s : State) (p : ℕ) (words : List ℕ) (log : List Access) (now : State) (log_now : List Access) (owed : Bool) (before after : List Notice) (n : ℕ) : Type 0 where
+pub record IsMarking (s : State) (p : ℕ) (words : List ℕ) (log : List Access) (now : State) (log_now : List Access)
+    (owed : Bool) (before after : List Notice) (n : ℕ) : Type 0 where
   pub emitted : List Notice
   pub notices : after ≡ before ++ emitted
   pub few : length emitted ≤ n
@@ -331,16 +369,25 @@ pub record IsMarking (s : State) (p : ℕ) (words : List ℕ) (log : List Access
   pub same : (j : ℕ) → j ≢ 2 * p → slice_index_or now.own j [] ≡ slice_index_or s.own j []
   pub owes : owed ≡ finds_empty news
   pub done : (x : ℕ) → x < 512 → (x % 32 ≢ 0) ⊎ (x / 32 < n) → known log_now x ≡ word_of now (2 * p) x
-  pub heads : (i : ℕ) → i < 16 → n ≤ i → (type_of (slice_index words (32 * i)) ≢ 0 → known log_now (32 * i) ≡ slice_index words (32 * i)) × MayBeMarked (slice_index words (32 * i)) (known log_now (32 * i)) (word_of now (2 * p) (32 * i))
+  pub heads : (i : ℕ) → i < 16 → n ≤ i
+      → (type_of (slice_index words (32 * i)) ≢ 0 → known log_now (32 * i) ≡ slice_index words (32 * i))
+      × MayBeMarked (slice_index words (32 * i)) (known log_now (32 * i)) (word_of now (2 * p) (32 * i))
 
 -- a write of a timer on one page
-pub record IsTimedPart (s : State) (p : ℕ) (log : List Access) (event : Event) (now : State) (log_now : List Access) (reply : Reply) (owed : Bool) (notices : List Notice) : Type 0 where
+pub record IsTimedPart (s : State) (p : ℕ) (log : List Access) (event : Event) (now : State) (log_now : List Access)
+    (reply : Reply) (owed : Bool) (notices : List Notice) : Type 0 where
   pub looks : List Access
   pub stores : List Access
   pub marks : List Access
   pub are : AreTimed s p looks stores marks log
   pub page : log_now ≡ marks ++ (stores ++ (looks ++ log))
-  pub run : run_of s (explained s p Sim looks log ++ event ∷ explained_after s p marks (stores ++ (looks ++ log))) ≡ (now, all_done (explained s p Sim looks log) ++ reply ∷ all_done (explained_after s p marks (stores ++ (looks ++ log))), notices)
+  pub run : run_of s (explained s p Sim looks log ++ event ∷ explained_after s p marks (stores ++ (looks ++ log)))
+      ≡ (
+        now,
+        all_done (explained s p Sim looks log)
+            ++ reply ∷ all_done (explained_after s p marks (stores ++ (looks ++ log))),
+        notices,
+      )
   pub owes : owed ≡ finds_empty marks
   pub direct : is_direct_write s event ≡ true → (stores ≡ []) × (marks ≡ [])
   pub shadow : IsShadow now (2 * p) log_now
@@ -359,16 +406,20 @@ SlotFills s p i now = ((b : ℕ) → b < 256 → slot_byte now p i b ≡ slot_by
 -- an occupied slot in which at most MessagePending is set, in words, from those that the host knew
 abbrev pub WordsGrow : State → ℕ → List ℕ → Type 0
 WordsGrow s p words = (i : ℕ) → i < 16 → type_of (slice_index words (32 * i)) ≢ 0
-    → ((w : ℕ) → 1 ≤ w → w < 32 → word_of s (2 * p) (32 * i + w) ≡ slice_index words (32 * i + w)) × ((word_of s (2 * p) (32 * i) ≡ slice_index words (32 * i)) ⊎ (word_of s (2 * p) (32 * i) ≡ bit_or (slice_index words (32 * i)) (2 ^ 40)))
+    → ((w : ℕ) → 1 ≤ w → w < 32 → word_of s (2 * p) (32 * i + w) ≡ slice_index words (32 * i + w))
+    × ((word_of s (2 * p) (32 * i) ≡ slice_index words (32 * i))
+    ⊎ (word_of s (2 * p) (32 * i) ≡ bit_or (slice_index words (32 * i)) (2 ^ 40)))
 
 -- the looks at a message page before a tick
-pub record IsFirst (s : State) (p : ℕ) (log : List Access) (now : State) (log_now : List Access) (before after : List Notice) : Type 0 where
+pub record IsFirst (s : State) (p : ℕ) (log : List Access) (now : State) (log_now : List Access)
+    (before after : List Notice) : Type 0 where
   pub emitted : List Notice
   pub notices : after ≡ before ++ emitted
   pub viewed : IsViewed s p log now log_now emitted
 
 -- a message page is brought up to date after a tick
-pub record IsFinished (s : State) (p : ℕ) (log : List Access) (now : State) (log_now : List Access) (owed : Bool) (before after : List Notice) : Type 0 where
+pub record IsFinished (s : State) (p : ℕ) (log : List Access) (now : State) (log_now : List Access) (owed : Bool)
+    (before after : List Notice) : Type 0 where
   pub emitted : List Notice
   pub notices : after ≡ before ++ emitted
   pub few : length emitted ≤ 16
@@ -379,7 +430,8 @@ pub record IsFinished (s : State) (p : ℕ) (log : List Access) (now : State) (l
   pub marked : AreMarks marks
   pub careful : IsShown s p Sim → AreCareful Sim stores log
   pub hidden : (IsShown s p Sim → ⊥) → marks ≡ []
-  pub run : run_of s (explained_after s p marks (stores ++ log)) ≡ (now, all_done (explained_after s p marks (stores ++ log)), emitted)
+  pub run : run_of s (explained_after s p marks (stores ++ log))
+      ≡ (now, all_done (explained_after s p marks (stores ++ log)), emitted)
   pub rest : now ≡ record s { own = now.own; slots = now.slots }
   pub count : length now.own ≡ length s.own
   pub others : LeavesOthers s (2 * p) now
@@ -396,7 +448,8 @@ AreDirectAt s p (Tick moment) = AreDueDirect s p moment
 AreDirectAt s p _ = ⊥
 
 -- a tick, with the looks, stores and marks of the m message pages from k on
-pub record IsTickFrom (s : State) (k m : ℕ) (pages : List (List Access)) (event : Event) (now : State) (pages_now : List (List Access)) (reply : Reply) (owed : List Bool) (before after late : List Notice) : Type 0 where
+pub record IsTickFrom (s : State) (k m : ℕ) (pages : List (List Access)) (event : Event) (now : State)
+    (pages_now : List (List Access)) (reply : Reply) (owed : List Bool) (before after late : List Notice) : Type 0 where
   pub looks : ℕ → List Access
   pub stores : ℕ → List Access
   pub marks : ℕ → List Access
@@ -404,11 +457,18 @@ pub record IsTickFrom (s : State) (k m : ℕ) (pages : List (List Access)) (even
   pub notices : after ≡ before ++ emitted
   pub few : length late ≤ 16 * m
   pub are : (p : ℕ) → k ≤ p → p < k + m → AreTimed s p (looks p) (stores p) (marks p) (slice_index_or pages (2 * p) [])
-  pub logs : (p : ℕ) → k ≤ p → p < k + m → slice_index_or pages_now (2 * p) [] ≡ marks p ++ (stores p ++ (looks p ++ slice_index_or pages (2 * p) []))
+  pub logs : (p : ℕ) → k ≤ p → p < k + m
+      → slice_index_or pages_now (2 * p) [] ≡ marks p ++ (stores p ++ (looks p ++ slice_index_or pages (2 * p) []))
   pub lower : (p : ℕ) → p < k → slice_index_or pages_now (2 * p) [] ≡ slice_index_or pages (2 * p) []
   pub flags : (p : ℕ) → slice_index_or pages_now (2 * p + 1) [] ≡ slice_index_or pages (2 * p + 1) []
   pub size : length pages_now ≡ length pages
-  pub run : run_of s (looked_from s pages looks k m ++ event ∷ marked_from s pages looks stores marks k m) ≡ (now, all_done (looked_from s pages looks k m) ++ reply ∷ all_done (marked_from s pages looks stores marks k m), emitted ++ late)
+  pub run : run_of s (looked_from s pages looks k m ++ event ∷ marked_from s pages looks stores marks k m)
+      ≡ (
+        now,
+        all_done (looked_from s pages looks k m)
+            ++ reply ∷ all_done (marked_from s pages looks stores marks k m),
+        emitted ++ late,
+      )
   pub shadow : (p : ℕ) → k ≤ p → p < k + m → IsShadow now (2 * p) (slice_index_or pages_now (2 * p) [])
   pub regs : now.regs ≡ s.regs
   pub guest : now.pages ≡ s.pages
@@ -420,17 +480,22 @@ pub record IsTickFrom (s : State) (k m : ℕ) (pages : List (List Access)) (even
   pub eight : length owed ≡ 8
   pub owes : (p : ℕ) → k ≤ p → p < k + m → slice_index_or owed p false ≡ finds_empty (marks p)
   pub unowed : (p : ℕ) → p < k → slice_index_or owed p false ≡ false
-  pub still : (p : ℕ) → p < k → AreDirectAt s p event → slice_index_or now.own (2 * p) [] ≡ slice_index_or s.own (2 * p) []
+  pub still : (p : ℕ) → p < k → AreDirectAt s p event
+      → slice_index_or now.own (2 * p) [] ≡ slice_index_or s.own (2 * p) []
   pub direct : (p : ℕ) → k ≤ p → p < k + m → AreDirectAt s p event → (stores p ≡ []) × (marks p ≡ [])
 
--- looks at the message pages below n, after which a tick on the others is one on all, if the due timers of these are in direct mode
-pub record HaveLooked (s : State) (pages : List (List Access)) (n : ℕ) (mid : State) (pages_mid : List (List Access)) (notices : List Notice) : Type 0 where
+-- looks at the message pages below n, after which a tick on the others is one on all, if the due timers of these are
+-- in direct mode
+pub record HaveLooked (s : State) (pages : List (List Access)) (n : ℕ) (mid : State) (pages_mid : List (List Access))
+    (notices : List Notice) : Type 0 where
   pub rest : mid ≡ record s { own = mid.own; slots = mid.slots }
   pub size : length pages_mid ≡ length pages
   pub few : length notices ≤ 16 * n
   pub shadow : (p : ℕ) → n ≤ p → p < processors s → IsShadow mid (2 * p) (slice_index_or pages_mid (2 * p) [])
-  pub before : (event : Event) (now : State) (pages_now : List (List Access)) (reply : Reply) (owed : List Bool) (after late : List Notice) → ((p : ℕ) → p < n → AreDirectAt s p event)
-      → IsTickFrom mid n (processors s - n) pages_mid event now pages_now reply owed notices after late → IsTickFrom s 0 (processors s) pages event now pages_now reply owed [] after late
+  pub before : (event : Event) (now : State) (pages_now : List (List Access)) (reply : Reply) (owed : List Bool)
+      (after late : List Notice) → ((p : ℕ) → p < n → AreDirectAt s p event)
+      → IsTickFrom mid n (processors s - n) pages_mid event now pages_now reply owed notices after late
+      → IsTickFrom s 0 (processors s) pages event now pages_now reply owed [] after late
 
 -- all words of a page are stored, below n
 pub record IsCleared (n : ℕ) (log now : List Access) : Type 0 where
@@ -446,14 +511,16 @@ pub record Resets (s : State) (p : ℕ) (now : State) : Type 0 where
   pub others : (j x : ℕ) → j ≢ 2 * p → j ≢ 2 * p + 1 → word_of now j x ≡ word_of s j x
 
 -- a reset on the message page
-pub record IsResetPart (s : State) (p : ℕ) (log : List Access) (event : Event) (now : State) (log_now : List Access) (reply : Reply) (notices : List Notice) : Type 0 where
+pub record IsResetPart (s : State) (p : ℕ) (log : List Access) (event : Event) (now : State) (log_now : List Access)
+    (reply : Reply) (notices : List Notice) : Type 0 where
   pub looks : List Access
   pub messages : List Access
   pub shown : IsShown s p Sim → AreLooks 16 looks
   pub hidden : (IsShown s p Sim → ⊥) → looks ≡ []
   pub clears : AreClears 512 messages
   pub page : log_now ≡ messages ++ (looks ++ log)
-  pub run : run_of s (explained s p Sim looks log ++ event ∷ []) ≡ (now, all_done (explained s p Sim looks log) ++ reply ∷ [], notices)
+  pub run : run_of s (explained s p Sim looks log ++ event ∷ [])
+      ≡ (now, all_done (explained s p Sim looks log) ++ reply ∷ [], notices)
   pub shadow : IsShadow now (2 * p) log_now
   pub flags : (x : ℕ) → x < 512 → word_of now (2 * p + 1) x ≡ 0
   pub others : (j x : ℕ) → x < 512 → j ≢ 2 * p → j ≢ 2 * p + 1 → word_of now j x ≡ word_of s j x

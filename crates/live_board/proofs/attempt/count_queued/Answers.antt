@@ -14,6 +14,16 @@ loop-index-preserved c =
     let below : i < length q = slice_get_within q i m (sym c.in-Some.ensures) in
     let is : get_or q i m ≡ m = get_or_from_slice_get q i m m (sym c.in-Some.ensures) in
     elim c.if-is_from_port.branch [
-      | then-is_from_port w ↦ let more = count_by_more_yes (is_from_port c.args.number) q i m below (ap (is_from_port c.args.number) is ∙ search rules) in (omega (arith, more, c.loop-index.invariant.0, w.count-is), omega (arith, c.loop-index.invariant.1, w.count-is))
-      | else-is_from_port w ↦ let more = count_by_more_no (is_from_port c.args.number) q i m below (ap (is_from_port c.args.number) is ∙ search rules) in (omega (arith, more, c.loop-index.invariant.0, w.count-is), omega (arith, c.loop-index.invariant.1, w.count-is))
+      | then-is_from_port w ↦ let more =
+          count_by_more_yes (is_from_port c.args.number) q i m below
+          (ap (is_from_port c.args.number) is ∙ search rules) in (
+            omega (arith, more, c.loop-index.invariant.0, w.count-is),
+            omega (arith, c.loop-index.invariant.1, w.count-is),
+          )
+      | else-is_from_port w ↦ let more =
+          count_by_more_no (is_from_port c.args.number) q i m below
+          (ap (is_from_port c.args.number) is ∙ search rules) in (
+            omega (arith, more, c.loop-index.invariant.0, w.count-is),
+            omega (arith, c.loop-index.invariant.1, w.count-is),
+          )
     ]

@@ -18,7 +18,8 @@ returns-then-is_empty c =
           marked-none _ _ _ _ _ (known-empty _ _ _ c.requires.header empty))
       | then-is_empty-via-else-is_empty+then-own_word-was w ↦ (
           let still : c.args.was ≡ w.own_word.result = search rules in
-          let header = ap (word_of c.args.board.now.state (2 * c.args.vp)) (sym slot) ∙ sym w.own_word.ensures ∙ sym still in
+          let header =
+          ap (word_of c.args.board.now.state (2 * c.args.vp)) (sym slot) ∙ sym w.own_word.ensures ∙ sym still in
           marked-none _ _ _ _ _ (known-still _ _ _ c.requires.header c.requires.known header))
     ]
 
@@ -31,7 +32,10 @@ returns c =
     let other : c.own_word.result ≢ c.args.was = search rules in
     let header = ap (word_of s (2 * c.args.vp)) (sym slot) ∙ sym c.own_word.ensures in
     let set = known-marked _ _ _ c.requires.header c.requires.known full (λ e. other (sym header ∙ e)) in
-    let on = subst (λ w. IsPassedOn s c.args.vp Sim w (bit_or c.fetch_or-found.result (2 ^ 40)) c.pass.new.board.state c.args.notices.now c.pass.new.notices) slot c.pass.ensures in
+    let on = subst (λ w. IsPassedOn s c.args.vp Sim w
+    (bit_or c.fetch_or-found.result (2 ^ 40)) c.pass.new.board.state c.args.notices.now
+    c.pass.new.notices) slot c.pass.ensures in
     let page = c.fetch_or-found.ensures ∙ ap (λ w. FetchOr w (2 ^ 40) c.fetch_or-found.result ∷ c.args.page.now) slot in
-    subst (λ b. IsMarked s c.args.vp c.args.sint c.args.page.now c.pass.new.board.state c.fetch_or-found.new.self b c.args.notices.now c.pass.new.notices) (sym c.is_empty-2.ensures)
+    subst (λ b. IsMarked s c.args.vp c.args.sint c.args.page.now c.pass.new.board.state c.fetch_or-found.new.self b
+    c.args.notices.now c.pass.new.notices) (sym c.is_empty-2.ensures)
     (marked-one _ _ _ _ _ _ _ _ _ under page set on)

@@ -4,4 +4,6 @@ use Rattle.live_board.specs.inside.Parts.{IsLooks, IsOther}
 use Rattle.live_board.proofs.observing.look_on.Given as goal
 
 abbrev pub invariant-loop-slot : goal.invariant-loop-slot
-invariant-loop-slot l = (log : List Access) → IsOther l.fn.board.state l.fn.vp l.fn.other l.fn.found log l.fn.page → IsLooks l.fn.board.state l.fn.vp log l.board.state l.page l.notices l.slot
+invariant-loop-slot l =
+    (log : List Access) → IsOther l.fn.board.state l.fn.vp l.fn.other l.fn.found log l.fn.page
+    → IsLooks l.fn.board.state l.fn.vp log l.board.state l.page l.notices l.slot

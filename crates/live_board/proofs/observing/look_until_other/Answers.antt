@@ -14,16 +14,26 @@ loop-slot-init c = no-looks _ _ _ _ refl c.requires.shadow
 pub loop-slot-preserved : goal.loop-slot-preserved
 loop-slot-preserved c =
     let own : List (List ℕ) = c.args.board.now.state.own in
-    let page : get_or own (2 * c.args.vp) [] ≡ c.in-Some.own.now = get_or_from_slice_get own (2 * c.args.vp) c.in-Some.own.now [] (sym c.in-Some.ensures.value) in
-    let here : c.word_at.result ≡ word_of c.args.board.now.state (2 * c.args.vp) (32 * c.loop-slot.slot) = c.word_at.ensures ∙ ap (λ l. word_at l (8 * (32 * c.loop-slot.slot))) (sym page) in
+    let page : get_or own (2 * c.args.vp) [] ≡ c.in-Some.own.now =
+    get_or_from_slice_get own (2 * c.args.vp) c.in-Some.own.now [] (sym c.in-Some.ensures.value) in
+    let here : c.word_at.result ≡ word_of c.args.board.now.state (2 * c.args.vp) (32 * c.loop-slot.slot) =
+    c.word_at.ensures ∙ ap (λ l. word_at l (8 * (32 * c.loop-slot.slot))) (sym page) in
     let same : c.load-found.result ≡ c.word_at.result = search rules in
     let known = c.loop-slot.invariant.shadow (32 * c.loop-slot.slot) (omega (arith, c.loop-slot-test.true)) in
-    look-more _ _ _ _ _ _ _ _ _ _ _ c.loop-slot.invariant (look-is _ _ _ _ _ _ _ _ _ _ known c.load-found.ensures (passed-equal _ _ _ _ _ _ (same ∙ here)))
+    look-more _ _ _ _ _ _ _ _ _ _ _ c.loop-slot.invariant
+    (look-is _ _ _ _ _ _ _ _ _ _ known c.load-found.ensures (passed-equal _ _ _ _ _ _ (same ∙ here)))
 
 pub returns-then-found-word_at-clause-other : goal.returns-then-found-word_at-clause-other
-returns-then-found-word_at-clause-other c = record { below = c.loop-slot-test.true; same = c.loop-slot.page; looks = c.loop-slot.invariant; page = c.load-found.ensures }
+returns-then-found-word_at-clause-other c =
+    record {
+      below = c.loop-slot-test.true;
+      same = c.loop-slot.page;
+      looks = c.loop-slot.invariant;
+      page = c.load-found.ensures;
+    }
 
 pub returns-clause-same : goal.returns-clause-same
 returns-clause-same c =
     let end : c.loop-slot.slot ≡ 16 = omega (arith, c.loop-slot.auto.slot-end, c.loop-slot-test.false) in
-    subst (λ n. IsLooks c.args.board.now.state c.args.vp c.args.page.now c.args.board.now.state c.loop-slot.page [] n) end c.loop-slot.invariant
+    subst (λ n. IsLooks c.args.board.now.state c.args.vp c.args.page.now c.args.board.now.state c.loop-slot.page [] n)
+    end c.loop-slot.invariant

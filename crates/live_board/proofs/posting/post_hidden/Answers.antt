@@ -7,6 +7,10 @@ returns c =
     let s : State = c.args.board.now.state in
     let into = c.post_into.ensures in
     let reached = c.facts.ensures.sound.whole.ports c.args.number c.args.port.now c.requires.open in
-    let bytes = header-bytes s c.args.port.now.vp c.args.port.now.sint c.facts.ensures.shape c.facts.ensures.ranges reached.0 reached.1 in
-    let m = made s _ _ _ _ _ _ c.args.port.now into.step.step c.requires.open c.facts.ensures.sound c.requires.fits bytes in
-    part-filled s s _ c.args.number c.args.kind c.args.port.now _ _ _ _ _ _ _ _ _ reached.1 (not-watched s c.args.port.now.vp c.args.page.now) c.requires.empty (λ x low _. c.requires.shadow x low) into m (λ shown. absurd (c.requires.hidden shown))
+    let bytes = header-bytes s c.args.port.now.vp c.args.port.now.sint c.facts.ensures.shape c.facts.ensures.ranges
+    reached.0 reached.1 in
+    let m = made s _ _ _ _ _ _ c.args.port.now into.step.step c.requires.open c.facts.ensures.sound c.requires.fits
+    bytes in
+    part-filled s s _ c.args.number c.args.kind c.args.port.now _ _ _ _ _ _ _ _ _ reached.1
+    (not-watched s c.args.port.now.vp c.args.page.now) c.requires.empty
+    (λ x low _. c.requires.shadow x low) into m (λ shown. absurd (c.requires.hidden shown))

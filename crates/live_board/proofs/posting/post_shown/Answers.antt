@@ -11,28 +11,39 @@ returns-then-is_empty-clause-part c =
     let mid : State = c.find_header-header.new.board.state in
     let f = c.find_header-header.ensures in
     let into = c.post_into.ensures in
-    let there : port_at (ports_of mid) c.args.number ≡ Some c.args.port.now = ap (λ (t : State). port_at (ports_of t) c.args.number) f.watched.rest ∙ c.requires.open in
+    let there : port_at (ports_of mid) c.args.number ≡ Some c.args.port.now =
+    ap (λ (t : State). port_at (ports_of t) c.args.number) f.watched.rest ∙ c.requires.open in
     let reached = c.facts.ensures.sound.whole.ports c.args.number c.args.port.now there in
-    let bytes = header-bytes mid c.args.port.now.vp c.args.port.now.sint c.facts.ensures.shape c.facts.ensures.ranges reached.0 reached.1 in
+    let bytes = header-bytes mid c.args.port.now.vp c.args.port.now.sint c.facts.ensures.shape c.facts.ensures.ranges
+    reached.0 reached.1 in
     let m = made mid _ _ _ _ _ _ c.args.port.now into.step.step there c.facts.ensures.sound c.requires.fits bytes in
     let empty : type_of c.find_header-header.result.0 ≡ 0 = search rules in
-    part-filled _ mid _ c.args.number c.args.kind c.args.port.now _ _ _ _ _ _ _ _ _ reached.1 f.watched (f.notices ∙ ap (λ ns. ns ++ f.emitted) c.requires.empty) f.others into m (λ _. left-type c.args.board.now.state c.args.number c.args.kind c.args.port.now _ _ f.exact ∙ empty)
+    part-filled _ mid _ c.args.number c.args.kind c.args.port.now _ _ _ _ _ _ _ _ _ reached.1 f.watched
+    (f.notices ∙ ap (λ ns. ns ++ f.emitted) c.requires.empty) f.others into m
+    (λ _. left-type c.args.board.now.state c.args.number c.args.kind c.args.port.now _ _ f.exact ∙ empty)
 
 pub returns-clause-part : goal.returns-clause-part
 returns-clause-part c =
     let mid : State = c.find_header-header.new.board.state in
     let f = c.find_header-header.ensures in
     let one = c.perform_post.ensures in
-    let there : port_at (ports_of mid) c.args.number ≡ Some c.args.port.now = ap (λ (t : State). port_at (ports_of t) c.args.number) f.watched.rest ∙ c.requires.open in
+    let there : port_at (ports_of mid) c.args.number ≡ Some c.args.port.now =
+    ap (λ (t : State). port_at (ports_of t) c.args.number) f.watched.rest ∙ c.requires.open in
     let reached = c.facts.ensures.sound.whole.ports c.args.number c.args.port.now there in
-    let bytes = header-bytes mid c.args.port.now.vp c.args.port.now.sint c.facts.ensures.shape c.facts.ensures.ranges reached.0 reached.1 in
+    let bytes = header-bytes mid c.args.port.now.vp c.args.port.now.sint c.facts.ensures.shape c.facts.ensures.ranges
+    reached.0 reached.1 in
     let m = made mid _ _ _ _ _ _ c.args.port.now one.step there c.facts.ensures.sound c.requires.fits bytes in
     let full : type_of c.find_header-header.result.0 ≢ 0 = search rules in
-    let found = subst (λ ns. IsFound c.args.board.now.state c.args.number c.args.kind c.args.port.now c.args.page.now mid c.find_header-header.new.page c.find_header-header.result.0 c.find_header-header.result.1 ns c.find_header-header.new.notices) c.requires.empty f in
+    let found = subst (λ ns.
+    IsFound c.args.board.now.state c.args.number c.args.kind c.args.port.now c.args.page.now mid
+    c.find_header-header.new.page c.find_header-header.result.0 c.find_header-header.result.1 ns
+    c.find_header-header.new.notices) c.requires.empty f in
     part-kept _ mid _ c.args.number c.args.kind c.args.port.now _ _ _ _ _ _ _ _ reached.1 bytes found one m full
 
 pub returns-then-is_empty-clause-looked : goal.returns-then-is_empty-clause-looked
-returns-then-is_empty-clause-looked c = looked-more _ _ _ _ c.post_into.ensures.filled.news c.post_into.ensures.filled.page c.find_header-header.ensures.looked
+returns-then-is_empty-clause-looked c =
+    looked-more _ _ _ _ c.post_into.ensures.filled.news c.post_into.ensures.filled.page
+    c.find_header-header.ensures.looked
 
 pub returns-clause-looked : goal.returns-clause-looked
 returns-clause-looked c = c.find_header-header.ensures.looked

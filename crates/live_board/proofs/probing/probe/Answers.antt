@@ -9,8 +9,14 @@ use Rattle.live_board.proofs.probing.probe.Goals as goal
 pub returns : goal.returns
 returns c =
     let slot : 32 * c.from-slot.result ≡ 32 * c.args.sint = search rules in
-    let look = subst (λ w. IsLook c.args.board.now.state c.args.vp Sim w c.args.page.now c.look-found.new.board.state c.look-found.new.page c.look-found.result c.args.notices.now c.look-found.new.notices) slot c.look-found.ensures in
-    let mark = subst (λ w. IsMark c.look-found.new.board.state c.args.vp Sim w 1099511627776 c.look-found.new.page c.mark.new.board.state c.mark.new.page c.mark.result c.look-found.new.notices c.mark.new.notices) slot c.mark.ensures in
+    let look = subst
+    (λ w. IsLook c.args.board.now.state c.args.vp Sim w c.args.page.now c.look-found.new.board.state
+    c.look-found.new.page c.look-found.result c.args.notices.now
+    c.look-found.new.notices) slot c.look-found.ensures in
+    let mark = subst
+    (λ w. IsMark c.look-found.new.board.state c.args.vp Sim w 1099511627776 c.look-found.new.page
+    c.mark.new.board.state c.mark.new.page c.mark.result c.look-found.new.notices
+    c.mark.new.notices) slot c.mark.ensures in
     let full : type_of c.look-found.result ≢ 0 = search rules in
     let clear : is_pending c.look-found.result ≡ false = search rules in
     probed-two _ _ _ _ _ _ _ _ _ _ _ _ _ look full clear mark
@@ -18,8 +24,14 @@ returns c =
 pub returns-then-is_empty : goal.returns-then-is_empty
 returns-then-is_empty c =
     let slot : 32 * c.from-slot.result ≡ 32 * c.args.sint = search rules in
-    let look = subst (λ w. IsLook c.args.board.now.state c.args.vp Sim w c.args.page.now c.look-found.new.board.state c.look-found.new.page c.look-found.result c.args.notices.now c.look-found.new.notices) slot c.look-found.ensures in
+    let look = subst
+    (λ w. IsLook c.args.board.now.state c.args.vp Sim w c.args.page.now c.look-found.new.board.state
+    c.look-found.new.page c.look-found.result c.args.notices.now
+    c.look-found.new.notices) slot c.look-found.ensures in
     elim c.then-is_empty.branch [
-      | then-is_empty-via-then-is_empty w ↦ (let empty : type_of c.look-found.result ≡ 0 = search rules in probed-one _ _ _ _ _ _ _ _ _ look (inl empty))
-      | then-is_empty-via-else-is_empty+then-is_pending w ↦ (let set : is_pending c.look-found.result ≡ true = search rules in probed-one _ _ _ _ _ _ _ _ _ look (inr set))
+      | then-is_empty-via-then-is_empty w ↦
+          (let empty : type_of c.look-found.result ≡ 0 = search rules in probed-one _ _ _ _ _ _ _ _ _ look (inl empty))
+      | then-is_empty-via-else-is_empty+then-is_pending w ↦
+          (let set : is_pending c.look-found.result ≡ true = search rules in
+          probed-one _ _ _ _ _ _ _ _ _ look (inr set))
     ]

@@ -6,7 +6,9 @@ use Rattle.live_board.proofs.probing.probe_waiting.Goals.{then-is_waiting, else-
 use Rattle.live_board.proofs.probing.probe_waiting.Goals as goal
 
 pub loop-number-init : goal.loop-number-init
-loop-number-init c = probing-start _ _ _ _ _ c.requires.empty c.requires.shadow c.page_words-words.ensures.count c.page_words-words.ensures.words
+loop-number-init c =
+    probing-start _ _ _ _ _ c.requires.empty c.requires.shadow c.page_words-words.ensures.count
+    c.page_words-words.ensures.words
 
 pub loop-number-preserved : goal.loop-number-preserved
 loop-number-preserved c =
@@ -17,8 +19,11 @@ loop-number-preserved c =
       | then-is_waiting w ↦ (
           let busy : c.is_waiting.result ≡ true = search rules in
           let place : 32 * w.from.result ≡ 32 * c.loop-number.number = search rules in
-          let one = subst (λ n. IsProbed state c.args.vp n c.loop-number.page w.probe.new.board.state w.probe.new.page w.probe.result c.loop-number.notices w.probe.new.notices) number w.probe.ensures in
-          probing-at _ _ _ _ _ _ _ _ _ _ _ _ (ap (λ b. b.state) w.board-is) w.page-is (w.words-is ∙ ap (λ n. set c.loop-number.words n w.probe.result) place) w.notices-is
+          let one = subst
+          (λ n. IsProbed state c.args.vp n c.loop-number.page w.probe.new.board.state w.probe.new.page
+          w.probe.result c.loop-number.notices w.probe.new.notices) number w.probe.ensures in
+          probing-at _ _ _ _ _ _ _ _ _ _ _ _ (ap (λ b. b.state) w.board-is) w.page-is
+          (w.words-is ∙ ap (λ n. set c.loop-number.words n w.probe.result) place) w.notices-is
           (probing-more _ _ _ _ _ _ _ _ _ _ _ _ c.loop-number-test.true c.loop-number.invariant (waits ∙ busy) one))
       | else-is_waiting w ↦ (
           let idle : c.is_waiting.result ≡ false = search rules in
@@ -27,5 +32,7 @@ loop-number-preserved c =
     ]
 
 pub returns : goal.returns
-returns c = let end : c.loop-number.number ≡ 16 = omega (arith, c.loop-number.auto.number-end, c.loop-number-test.false) in
-    subst (λ n. IsProbing c.args.board.now.state c.args.vp c.args.page.now c.loop-number.board.state c.loop-number.page c.loop-number.words c.loop-number.notices n) end c.loop-number.invariant
+returns c = let end : c.loop-number.number
+    ≡ 16 = omega (arith, c.loop-number.auto.number-end, c.loop-number-test.false) in
+    subst (λ n. IsProbing c.args.board.now.state c.args.vp c.args.page.now c.loop-number.board.state
+    c.loop-number.page c.loop-number.words c.loop-number.notices n) end c.loop-number.invariant

@@ -12,16 +12,22 @@ loop-number-init c = publish-start _ _ _ _ _
 pub loop-number-preserved : goal.loop-number-preserved
 loop-number-preserved c =
     let number : c.in-Some.sint ≡ c.loop-number.number = search rules in
-    let at = λ (page : List Access). IsPublished c.args.board.now.state c.args.vp c.args.is_shown c.args.words.now (c.loop-number.number + 1) c.args.page.now page in
+    let at = λ (page : List Access). IsPublished c.args.board.now.state c.args.vp c.args.is_shown c.args.words.now
+    (c.loop-number.number + 1) c.args.page.now page in
     elim c.if-not-is_shown.branch [
       | then-not-is_shown w ↦ (
-          let filled = subst (λ n. IsFilledFrom c.args.board.now.state c.args.vp n (get_or c.args.words.now (32 * n) 0) c.loop-number.page w.publish_slot.new.page) number w.publish_slot.ensures in
+          let filled =
+          subst (λ n. IsFilledFrom c.args.board.now.state c.args.vp n
+          (get_or c.args.words.now (32 * n) 0) c.loop-number.page
+          w.publish_slot.new.page) number w.publish_slot.ensures in
           let free : (c.args.is_shown ≡ false) ⊎ (type_of (get_or c.args.words.now (32 * c.loop-number.number) 0) ≡ 0) =
-          elim w.then-not-is_shown.branch as (λ _. (c.args.is_shown ≡ false) ⊎ (type_of (get_or c.args.words.now (32 * c.loop-number.number) 0) ≡ 0)) [
+          elim w.then-not-is_shown.branch as
+          (λ _. (c.args.is_shown ≡ false) ⊎ (type_of (get_or c.args.words.now (32 * c.loop-number.number) 0) ≡ 0)) [
             | then-not-is_shown-via-then-not-is_shown v ↦ inl (search rules)
             | then-not-is_shown-via-else-not-is_shown+then-is_empty v ↦ inr (search rules)
           ] in
-          subst at (sym w.page-is) (publish-more _ _ _ _ _ _ _ _ c.loop-number-test.true c.loop-number.invariant filled free))
+          subst at (sym w.page-is)
+          (publish-more _ _ _ _ _ _ _ _ c.loop-number-test.true c.loop-number.invariant filled free))
       | else-not-is_shown+else-is_empty w ↦ (
           let seen : c.args.is_shown ≡ true = search rules in
           let full : type_of (get_or c.args.words.now (32 * c.loop-number.number) 0) ≢ 0 = search rules in
@@ -29,5 +35,7 @@ loop-number-preserved c =
     ]
 
 pub returns : goal.returns
-returns c = let end : c.loop-number.number ≡ 16 = omega (arith, c.loop-number.auto.number-end, c.loop-number-test.false) in
-    subst (λ n. IsPublished c.args.board.now.state c.args.vp c.args.is_shown c.args.words.now n c.args.page.now c.loop-number.page) end c.loop-number.invariant
+returns c = let end : c.loop-number.number
+    ≡ 16 = omega (arith, c.loop-number.auto.number-end, c.loop-number-test.false) in
+    subst (λ n. IsPublished c.args.board.now.state c.args.vp c.args.is_shown c.args.words.now n c.args.page.now
+    c.loop-number.page) end c.loop-number.invariant

@@ -8,6 +8,8 @@ returns-then-own_word-words c =
     let sint : c.from-slot.result ≡ c.args.sint = search rules in
     let place : 32 * c.from-slot.result ≡ 32 * c.args.sint = ap (λ n. 32 * n) sint in
     let under : c.args.sint < 16 = omega (arith, c.number.ensures.range) in
-    let head : get_or c.args.words.now (32 * c.args.sint) 0 ≡ word_of c.args.board.now.state (2 * c.args.vp) (32 * c.args.sint) =
-    ap (λ n. get_or c.args.words.now n 0) (sym place) ∙ sym c.if-own_word-words.true ∙ c.own_word.ensures ∙ ap (word_of c.args.board.now.state (2 * c.args.vp)) place in
+    let head : get_or c.args.words.now (32 * c.args.sint) 0
+    ≡ word_of c.args.board.now.state (2 * c.args.vp) (32 * c.args.sint) =
+    ap (λ n. get_or c.args.words.now n 0) (sym place) ∙ sym c.if-own_word-words.true ∙ c.own_word.ensures
+    ∙ ap (word_of c.args.board.now.state (2 * c.args.vp)) place in
     filled-kept _ _ _ _ _ (λ k low. c.requires.known k low ∙ c.requires.kept c.args.sint under head k low)

@@ -6,7 +6,15 @@ use Rattle.live_board.proofs.Settled.{loads-start, loads-more}
 use Rattle.live_board.proofs.settling.load_words.Goals as goal
 
 pub look-requires-clause-capacity : goal.look-requires-clause-capacity
-look-requires-clause-capacity c = omega (arith, c.requires.capacity, c.loop-word-test.true, c.loop-word.invariant.few, ap length c.loop-word.invariant.notices, length-append c.args.notices.now c.loop-word.invariant.emitted)
+look-requires-clause-capacity c =
+    omega (
+      arith,
+      c.requires.capacity,
+      c.loop-word-test.true,
+      c.loop-word.invariant.few,
+      ap length c.loop-word.invariant.notices,
+      length-append c.args.notices.now c.loop-word.invariant.emitted,
+    )
 
 pub loop-word-init : goal.loop-word-init
 loop-word-init c = loads-start _ _ _ _ _ c.requires.shadow
@@ -14,10 +22,13 @@ loop-word-init c = loads-start _ _ _ _ _ c.requires.shadow
 pub loop-word-preserved : goal.loop-word-preserved
 loop-word-preserved c =
     let rest = c.loop-word.invariant.watched.rest in
-    let on : c.args.vp < processors c.loop-word.board.state = subst (λ n. c.args.vp < n) (sym (ap processors rest)) c.requires.on in
+    let on : c.args.vp < processors c.loop-word.board.state =
+    subst (λ n. c.args.vp < n) (sym (ap processors rest)) c.requires.on in
     let shown = rest-shown c.args.board.now.state c.loop-word.board.state c.args.vp c.args.kind rest c.requires.shown in
-    loads-more _ _ _ _ _ _ _ _ _ _ _ _ _ c.facts.ensures.sound on c.loop-word-test.true shown c.loop-word.invariant c.look.ensures
+    loads-more _ _ _ _ _ _ _ _ _ _ _ _ _ c.facts.ensures.sound on c.loop-word-test.true shown c.loop-word.invariant
+    c.look.ensures
 
 pub returns : goal.returns
 returns c = let end : c.loop-word.word ≡ 512 = omega (arith, c.loop-word.auto.word-end, c.loop-word-test.false) in
-    subst (λ n. IsLoads c.args.board.now.state c.args.vp c.args.kind c.args.page.now c.loop-word.board.state c.loop-word.page c.args.notices.now c.loop-word.notices n) end c.loop-word.invariant
+    subst (λ n. IsLoads c.args.board.now.state c.args.vp c.args.kind c.args.page.now c.loop-word.board.state
+    c.loop-word.page c.args.notices.now c.loop-word.notices n) end c.loop-word.invariant

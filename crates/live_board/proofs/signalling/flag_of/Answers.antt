@@ -5,8 +5,13 @@ use Rattle.live_board.proofs.signalling.flag_of.Goals as goal
 
 pub overflow_add-result : goal.overflow_add-result
 overflow_add-result c =
-    let low = flags-low c.in-Flags.base c.in-Flags.count c.args.flag (sym (ap fits c.in-Flags.is) ∙ c.facts.ensures.buffers.shapes c.args.number c.args.port.now c.requires) c.if-flag-count.false in
+    let low = flags-low c.in-Flags.base c.in-Flags.count c.args.flag
+    (sym (ap fits c.in-Flags.is) ∙ c.facts.ensures.buffers.shapes c.args.number c.args.port.now c.requires)
+    c.if-flag-count.false in
     omega (arith, low)
 
 pub returns-clause-range : goal.returns-clause-range
-returns-clause-range c = flags-low c.in-Flags.base c.in-Flags.count c.args.flag (sym (ap fits c.in-Flags.is) ∙ c.facts.ensures.buffers.shapes c.args.number c.args.port.now c.requires) c.if-flag-count.false
+returns-clause-range c =
+    flags-low c.in-Flags.base c.in-Flags.count c.args.flag
+    (sym (ap fits c.in-Flags.is) ∙ c.facts.ensures.buffers.shapes c.args.number c.args.port.now c.requires)
+    c.if-flag-count.false

@@ -11,5 +11,6 @@ returns-in_default c =
     let port = c.args.port.now in
     let one = c.perform_signal.ensures in
     let none : signalled_flag s c.args.flag port ≡ None = search rules in
-    let own = own-stepped s _ c.args.number c.args.flag port _ _ c.requires.open one.step ∙ ap (after_signal s port.vp port.sint) none in
+    let own = own-stepped s _ c.args.number c.args.flag port _ _ c.requires.open one.step
+    ∙ ap (after_signal s port.vp port.sint) none in
     part-untouched s _ port.vp Sief _ _ _ _ _ c.requires.empty c.requires.shadow own one

@@ -16,6 +16,10 @@ returns c =
     let event : Event = Write c.args.number c.args.register c.args.value in
     let timer = rest-timer s mid c.args.vp event rest c.requires.timer in
     let done = timer-done mid _ c.args.vp event _ _ timer c.perform_write.ensures.step in
-    let one = subst (λ (r : Reply). IsStep mid event c.perform_write.new.board.state r c.view_slots.new.notices c.perform_write.new.notices) done c.perform_write.ensures in
+    let one = subst
+    (λ (r : Reply). IsStep mid event c.perform_write.new.board.state r c.view_slots.new.notices
+    c.perform_write.new.notices) done c.perform_write.ensures in
     part-direct s mid _ c.args.vp _ _ event _ _ _ c.view_slots.ensures one
-    (own-direct mid _ c.args.vp event _ _ timer (rest-direct s mid event rest c.requires.direct) one.step c.facts.ensures.sizes.processor_bound c.facts.ensures.shape)
+    (own-direct mid _ c.args.vp event _ _ timer
+    (rest-direct s mid event rest c.requires.direct) one.step c.facts.ensures.sizes.processor_bound
+    c.facts.ensures.shape)

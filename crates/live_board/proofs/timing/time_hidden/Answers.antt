@@ -4,7 +4,8 @@ use Rattle.live_board.proofs.TimedPart.{timer-on, timer-grows, timer-stays, part
 use Rattle.live_board.proofs.timing.time_hidden.Goals as goal
 
 pub publish-requires-clause-on : goal.publish-requires-clause-on
-publish-requires-clause-on c = timer-stays _ _ _ _ _ _ c.requires.timer c.facts.ensures.sound c.perform_after-reply.ensures.step
+publish-requires-clause-on c =
+    timer-stays _ _ _ _ _ _ c.requires.timer c.facts.ensures.sound c.perform_after-reply.ensures.step
 
 pub publish-requires-clause-kept : goal.publish-requires-clause-kept
 publish-requires-clause-kept c =
@@ -12,7 +13,8 @@ publish-requires-clause-kept c =
     let one = c.perform_after-reply.ensures in
     let grows = timer-grows s _ _ _ _ _ c.requires.timer one.step c.facts.ensures.sound in
     let on = timer-on s _ _ c.requires.timer in
-    kept-grown s _ _ _ c.facts.ensures.shape c.facts.ensures.ranges c.facts-2.ensures.shape c.facts-2.ensures.ranges on (timer-stays s _ _ _ _ _ c.requires.timer c.facts.ensures.sound one.step) c.page_words-words.ensures.words
+    kept-grown s _ _ _ c.facts.ensures.shape c.facts.ensures.ranges c.facts-2.ensures.shape c.facts-2.ensures.ranges
+    on (timer-stays s _ _ _ _ _ c.requires.timer c.facts.ensures.sound one.step) c.page_words-words.ensures.words
     (λ i under full. grows.slots _ i on under full) (λ i under empty. grows.fills _ i on under empty)
 
 pub returns : goal.returns
@@ -20,4 +22,5 @@ returns c =
     let s : State = c.args.board.now.state in
     let one = c.perform_after-reply.ensures in
     let grows = timer-grows s _ _ _ _ _ c.requires.timer one.step c.facts.ensures.sound in
-    part-timed-hidden s _ _ _ _ _ _ _ _ _ c.requires.posted c.requires.empty c.requires.hidden one grows c.publish.ensures
+    part-timed-hidden s _ _ _ _ _ _ _ _ _ c.requires.posted c.requires.empty c.requires.hidden one grows
+    c.publish.ensures

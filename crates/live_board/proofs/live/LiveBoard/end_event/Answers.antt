@@ -11,10 +11,15 @@ use Rattle.live_board.proofs.Shadowed.{live, probed-at, part-shadows, part-live,
 use Rattle.live_board.proofs.live.LiveBoard.end_event.Goals as goal
 
 pub invariant_of-self : goal.invariant_of-self
-invariant_of-self c = same-shadows _ _ _ (not-ended-own _ _ _ _ _ c.requires (search rules) c.perform.ensures.performs.step) c.self.invariant
+invariant_of-self c =
+    same-shadows _ _ _ (not-ended-own _ _ _ _ _ c.requires (search rules) c.perform.ensures.performs.step)
+    c.self.invariant
 
 pub returns-in_default-clause-live : goal.returns-in_default-clause-live
-returns-in_default-clause-live c = live-at _ _ _ _ _ _ c.self.view_is (untouched-live c.self.inside.board c.perform.new.self c.self.inside.pages.items _ _ _ c.perform.ensures.performs.step)
+returns-in_default-clause-live c =
+    live-at _ _ _ _ _ _ c.self.view_is
+    (untouched-live c.self.inside.board c.perform.new.self c.self.inside.pages.items _ _ _
+    c.perform.ensures.performs.step)
 
 pub invariant_of-self-2 : goal.invariant_of-self-2
 invariant_of-self-2 c =
@@ -24,9 +29,11 @@ invariant_of-self-2 c =
     let on = eom-on s p c.args.event.now (search rules) in
     let inside : 2 * p < length s.own = omega (arith, on, c.facts.ensures.shape.overlays) in
     let there : 2 * p < length pages = omega (arith, inside, c.self.invariant.count) in
-    let page = page-at pages (2 * p) c.index_mut-page.result.now there (c.index_mut-page.ensures.value ∙ ap (λ n. get_or pages n c.index_mut-page.result.now) c.index_of.ensures) in
+    let page = page-at pages (2 * p) c.index_mut-page.result.now there
+    (c.index_mut-page.ensures.value ∙ ap (λ n. get_or pages n c.index_mut-page.result.now) c.index_of.ensures) in
     let part = part-at s p Sim _ _ _ _ _ _ _ page c.end_on.ensures.part in
-    subst (λ n. Shadows c.end_on.new.board.state (set pages n c.end_on.new.page)) (sym c.index_of.ensures) (part-shadows s _ pages p Sim _ _ _ _ inside c.self.invariant part)
+    subst (λ n. Shadows c.end_on.new.board.state (set pages n c.end_on.new.page)) (sym c.index_of.ensures)
+    (part-shadows s _ pages p Sim _ _ _ _ inside c.self.invariant part)
 
 pub returns-clause-live : goal.returns-clause-live
 returns-clause-live c =
@@ -35,7 +42,8 @@ returns-clause-live c =
     let p : ℕ = c.in-Some.vp in
     let on = eom-on s p c.args.event.now (search rules) in
     let there : 2 * p < length pages = omega (arith, on, c.facts.ensures.shape.overlays, c.self.invariant.count) in
-    let page = page-at pages (2 * p) c.index_mut-page.result.now there (c.index_mut-page.ensures.value ∙ ap (λ n. get_or pages n c.index_mut-page.result.now) c.index_of.ensures) in
+    let page = page-at pages (2 * p) c.index_mut-page.result.now there
+    (c.index_mut-page.ensures.value ∙ ap (λ n. get_or pages n c.index_mut-page.result.now) c.index_of.ensures) in
     let part = part-at s p Sim _ _ _ _ _ _ _ page c.end_on.ensures.part in
     live-at _ _ _ _ _ _ c.self.view_is (indexed-live _ _ _ _ _ _ _ _ _ c.index_of.ensures
     (part-live c.self.inside.board c.end_on.new.board pages p Sim _ _ _ _ part))
@@ -48,7 +56,13 @@ returns-clause-probed c p is =
     let here : eom_of s c.args.event.now ≡ Some p = subst at (sym c.self.view_is) is in
     let same : c.in-Some.vp ≡ p = search rules in
     let on = eom-on s c.in-Some.vp c.args.event.now (search rules) in
-    let there : 2 * c.in-Some.vp < length pages = omega (arith, on, c.facts.ensures.shape.overlays, c.self.invariant.count) in
-    let page = page-at pages (2 * c.in-Some.vp) c.index_mut-page.result.now there (c.index_mut-page.ensures.value ∙ ap (λ n. get_or pages n c.index_mut-page.result.now) c.index_of.ensures) in
-    subst (λ n. IsShown c.args.self.now.board.state n Sim → HasProbed c.args.self.now.board.state n (log_of c.args.self.now n Sim) (log_of (live c.end_on.new.board (set pages c.index_of.result c.end_on.new.page)) n Sim)) same
-    (probed-at c.self.inside.board c.end_on.new.board pages c.args.self.now c.in-Some.vp c.index_of.result c.index_mut-page.result.now c.end_on.new.page c.self.view_is c.index_of.ensures there page c.end_on.ensures.probed)
+    let there : 2 * c.in-Some.vp < length pages =
+    omega (arith, on, c.facts.ensures.shape.overlays, c.self.invariant.count) in
+    let page = page-at pages (2 * c.in-Some.vp) c.index_mut-page.result.now there
+    (c.index_mut-page.ensures.value ∙ ap (λ n. get_or pages n c.index_mut-page.result.now) c.index_of.ensures) in
+    subst (λ n. IsShown c.args.self.now.board.state n Sim
+    → HasProbed c.args.self.now.board.state n (log_of c.args.self.now n Sim)
+    (log_of (live c.end_on.new.board (set pages c.index_of.result c.end_on.new.page)) n Sim)) same
+    (probed-at c.self.inside.board c.end_on.new.board pages c.args.self.now c.in-Some.vp c.index_of.result
+    c.index_mut-page.result.now c.end_on.new.page c.self.view_is c.index_of.ensures there page
+    c.end_on.ensures.probed)

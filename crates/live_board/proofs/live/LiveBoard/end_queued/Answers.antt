@@ -12,8 +12,13 @@ returns c =
     let s : State = c.args.self.now.board.state in
     let event : Event = Write c.args.vp 0x40000084 c.args.value in
     let to : IsWriteTo c.args.vp 0x40000084 event = (refl, refl) in
-    let idle : IsIdleAt c.args.vp c.args.self.now c.end_event.new.self = λ none. elim (eom-cases s c.args.vp 0x40000084 event to) [
+    let idle : IsIdleAt c.args.vp c.args.self.now c.end_event.new.self =
+    λ none. elim (eom-cases s c.args.vp 0x40000084 event to) [
       | inl on ↦ absurd (c.requires on none)
       | inr nowhere ↦ c.end_event.ensures.nowhere nowhere
-    ] in
-    (c.end_event.ensures.live, (λ on. c.end_event.ensures.probed c.args.vp (eom-there s c.args.vp 0x40000084 event to refl on)), idle, refl)
+    ] in (
+      c.end_event.ensures.live,
+      (λ on. c.end_event.ensures.probed c.args.vp (eom-there s c.args.vp 0x40000084 event to refl on)),
+      idle,
+      refl,
+    )

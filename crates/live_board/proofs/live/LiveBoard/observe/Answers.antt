@@ -13,9 +13,11 @@ invariant_of-self c =
     let on = subst (λ (m : LiveModel). p < processors m.board.state) (sym c.self.view_is) c.requires in
     let inside : 2 * p < length s.own = omega (arith, on, c.facts.ensures.shape.overlays) in
     let there : 2 * p < length pages = omega (arith, inside, c.self.invariant.count) in
-    let page = page-at pages (2 * p) c.index_mut-page.result.now there (c.index_mut-page.ensures.value ∙ ap (λ n. get_or pages n c.index_mut-page.result.now) c.index_of.ensures) in
+    let page = page-at pages (2 * p) c.index_mut-page.result.now there
+    (c.index_mut-page.ensures.value ∙ ap (λ n. get_or pages n c.index_mut-page.result.now) c.index_of.ensures) in
     let viewed = viewed-at s p _ _ _ _ _ page c.view_slots.ensures in
-    subst (λ n. Shadows c.view_slots.new.board.state (set pages n c.view_slots.new.page)) (sym c.index_of.ensures) (viewed-shadows s _ pages p _ _ inside c.self.invariant viewed)
+    subst (λ n. Shadows c.view_slots.new.board.state (set pages n c.view_slots.new.page)) (sym c.index_of.ensures)
+    (viewed-shadows s _ pages p _ _ inside c.self.invariant viewed)
 
 pub returns : goal.returns
 returns c =
@@ -24,6 +26,9 @@ returns c =
     let p : ℕ = c.args.vp in
     let on = subst (λ (m : LiveModel). p < processors m.board.state) (sym c.self.view_is) c.requires in
     let there : 2 * p < length pages = omega (arith, on, c.facts.ensures.shape.overlays, c.self.invariant.count) in
-    let page = page-at pages (2 * p) c.index_mut-page.result.now there (c.index_mut-page.ensures.value ∙ ap (λ n. get_or pages n c.index_mut-page.result.now) c.index_of.ensures) in
+    let page = page-at pages (2 * p) c.index_mut-page.result.now there
+    (c.index_mut-page.ensures.value ∙ ap (λ n. get_or pages n c.index_mut-page.result.now) c.index_of.ensures) in
     let viewed = viewed-at s p _ _ _ _ _ page c.view_slots.ensures in
-    observed-at _ _ _ _ _ c.self.view_is (indexed-observed _ _ _ _ _ _ _ _ c.index_of.ensures (viewed-observed c.self.inside.board c.view_slots.new.board pages p _ _ viewed))
+    observed-at _ _ _ _ _ c.self.view_is
+    (indexed-observed _ _ _ _ _ _ _ _ c.index_of.ensures
+    (viewed-observed c.self.inside.board c.view_slots.new.board pages p _ _ viewed))

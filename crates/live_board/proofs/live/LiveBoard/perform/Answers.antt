@@ -11,7 +11,8 @@ use Rattle.live_board.proofs.live.LiveBoard.perform.Goals as goal
 pub perform_apart-requires : goal.perform_apart-requires
 perform_apart-requires c =
     let off : nat_lt c.in-Reset.vp (processors c.args.self.now.board.state) ≡ false = search rules in
-    subst (λ (e : Event). (step c.args.self.now.board.state e).0.own ≡ c.args.self.now.board.state.own) (sym c.in-Reset.is) (not-reset _ _ off)
+    subst (λ (e : Event). (step c.args.self.now.board.state e).0.own ≡ c.args.self.now.board.state.own)
+    (sym c.in-Reset.is) (not-reset _ _ off)
 
 pub perform_apart-requires-in_default : goal.perform_apart-requires-in_default
 perform_apart-requires-in_default c = same-own _ _ (search rules)
@@ -19,5 +20,8 @@ perform_apart-requires-in_default c = same-own _ _ (search rules)
 pub returns-in-Post : goal.returns-in-Post
 returns-in-Post c =
     let old : LiveModel = c.args.self.now in let now : LiveModel = c.post.new.self in
-    let live = subst (λ (bytes : List ℕ). IsLive old (Post c.in-Post.port c.in-Post.kind (record { items = bytes })) now c.post.result c.post.new.notices) c.as_slice.ensures.value c.post.ensures.live in
-    subst (λ (e : Event). Acts old e now c.post.result none_owed c.post.new.notices c.clear.new.self) (sym c.in-Post.is) (live, c.post.ensures.looked, refl, c.clear.ensures)
+    let live = subst (λ (bytes : List ℕ). IsLive old
+    (Post c.in-Post.port c.in-Post.kind (record { items = bytes })) now c.post.result
+    c.post.new.notices) c.as_slice.ensures.value c.post.ensures.live in
+    subst (λ (e : Event). Acts old e now c.post.result none_owed c.post.new.notices c.clear.new.self)
+    (sym c.in-Post.is) (live, c.post.ensures.looked, refl, c.clear.ensures)

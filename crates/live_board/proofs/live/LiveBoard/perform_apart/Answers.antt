@@ -7,7 +7,8 @@ use Rattle.live_board.proofs.live.LiveBoard.perform_apart.Goals as goal
 
 pub invariant_of-self : goal.invariant_of-self
 invariant_of-self c =
-    let own = subst (λ (m : LiveModel). (step m.board.state c.args.event.now).0.own ≡ m.board.state.own) (sym c.self.view_is) c.requires in
+    let own = subst (λ (m : LiveModel). (step m.board.state c.args.event.now).0.own ≡ m.board.state.own)
+    (sym c.self.view_is) c.requires in
     same-shadows _ _ _ (ap (λ (o : Outcome). o.0.own) c.perform.ensures.performs.step ∙ own) c.self.invariant
 
 pub returns : goal.returns

@@ -11,8 +11,10 @@ returns-clause-some c =
     let pages : List (List Access) = c.self.inside.pages.items in
     let p : ℕ = c.in-Some.target.vp in
     let reached = c.facts.ensures.sound.whole.ports c.args.port c.in-Some.target (search rules) in
-    let there : 2 * p + 1 < length pages = omega (arith, reached.0, c.facts.ensures.shape.overlays, c.self.invariant.count) in
-    let page = page-at pages (2 * p + 1) c.index_mut-page.result.now there (c.index_mut-page.ensures.value ∙ ap (λ n. get_or pages n c.index_mut-page.result.now) c.index_of.ensures) in
+    let there : 2 * p + 1 < length pages =
+    omega (arith, reached.0, c.facts.ensures.shape.overlays, c.self.invariant.count) in
+    let page = page-at pages (2 * p + 1) c.index_mut-page.result.now there
+    (c.index_mut-page.ensures.value ∙ ap (λ n. get_or pages n c.index_mut-page.result.now) c.index_of.ensures) in
     let part = part-at s p Sief _ _ _ _ _ _ _ page c.signal_shown-was.ensures in
     live-at _ _ _ _ _ _ c.self.view_is (indexed-live _ _ _ _ _ _ _ _ _ c.index_of.ensures
     (part-live c.self.inside.board c.signal_shown-was.new.board pages p Sief _ _ _ _ part))

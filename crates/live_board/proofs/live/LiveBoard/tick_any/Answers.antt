@@ -13,7 +13,9 @@ invariant_of-self c =
 pub returns-then-not-is_any_due : goal.returns-then-not-is_any_due
 returns-then-not-is_any_due c =
     let none : is_any_due c.self.inside.board.state c.args.moment ≡ false = search rules in
-    ticked-at _ _ _ _ _ _ _ _ c.self.view_is (ticked-early c.self.inside.board c.perform.new.self c.self.inside.pages.items _ _ _ _ _ none c.perform.ensures.performs.step c.clear-2.ensures (none-owed 8))
+    ticked-at _ _ _ _ _ _ _ _ c.self.view_is
+    (ticked-early c.self.inside.board c.perform.new.self c.self.inside.pages.items _ _ _ _ _ none
+    c.perform.ensures.performs.step c.clear-2.ensures (none-owed 8))
 
 pub invariant_of-self-2 : goal.invariant_of-self-2
 invariant_of-self-2 c =
@@ -24,4 +26,6 @@ pub returns : goal.returns
 returns c =
     let due : is_any_due c.self.inside.board.state c.args.moment ≡ true = search rules in
     let count : processors c.self.inside.board.state - 0 ≡ processors c.self.inside.board.state = omega arith in
-    ticked-at _ _ _ _ _ _ _ _ c.self.view_is (ticked-due c.self.inside.board c.tick_from.new.board c.self.inside.pages.items c.tick_from.new.pages.items _ _ _ _ _ _ _ due count c.clear.ensures c.tick_from.ensures)
+    ticked-at _ _ _ _ _ _ _ _ c.self.view_is
+    (ticked-due c.self.inside.board c.tick_from.new.board c.self.inside.pages.items c.tick_from.new.pages.items _
+    _ _ _ _ _ _ due count c.clear.ensures c.tick_from.ensures)

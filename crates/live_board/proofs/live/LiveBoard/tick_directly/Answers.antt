@@ -21,18 +21,24 @@ returns-then-not-is_any_due-clause-done c _ =
     let s : State = c.self.inside.board.state in
     let none : is_any_due s c.args.moment ≡ false = search rules in
     let onward : s.moment ≤ c.args.moment = omega (arith, c.if-moment.false, c.moment.ensures) in
-    let done = done-ticked s s c.perform.new.self.state c.args.moment c.perform.result c.perform.new.notices refl onward c.perform.ensures.performs.step in
-    let one = subst (λ (r : Reply). (c.perform.new.self.state, r, c.perform.new.notices) ≡ step s (Tick c.args.moment)) done c.perform.ensures.performs.step in
-    ticked-at _ _ _ _ _ _ _ _ c.self.view_is (ticked-early c.self.inside.board c.perform.new.self c.self.inside.pages.items _ Done none_owed _ _ none one c.clear-then-not-is_any_due.ensures (none-owed 8))
+    let done = done-ticked s s c.perform.new.self.state c.args.moment c.perform.result c.perform.new.notices refl
+    onward c.perform.ensures.performs.step in
+    let one = subst (λ (r : Reply). (c.perform.new.self.state, r, c.perform.new.notices)
+    ≡ step s (Tick c.args.moment)) done c.perform.ensures.performs.step in
+    ticked-at _ _ _ _ _ _ _ _ c.self.view_is
+    (ticked-early c.self.inside.board c.perform.new.self c.self.inside.pages.items _ Done none_owed _ _ none one
+    c.clear-then-not-is_any_due.ensures (none-owed 8))
 
 pub invariant_of-self-2 : goal.invariant_of-self-2
 invariant_of-self-2 c =
     let s : State = c.self.inside.board.state in
-    ticked-shadows s c.tick_direct.new.board.state c.self.inside.pages.items c.tick_direct.new.pages.items (processors s) (Tick c.args.moment) _ _ _ _ _ refl c.facts.ensures.shape c.self.invariant c.tick_direct.ensures
+    ticked-shadows s c.tick_direct.new.board.state c.self.inside.pages.items c.tick_direct.new.pages.items
+    (processors s) (Tick c.args.moment) _ _ _ _ _ refl c.facts.ensures.shape c.self.invariant c.tick_direct.ensures
 
 pub returns-clause-done : goal.returns-clause-done
 returns-clause-done c _ =
     let s : State = c.self.inside.board.state in
     let due : is_any_due s c.args.moment ≡ true = search rules in
     ticked-at _ _ _ _ _ _ _ _ c.self.view_is
-    (ticked-due c.self.inside.board c.tick_direct.new.board c.self.inside.pages.items c.tick_direct.new.pages.items c.args.moment (processors s) Done none_owed _ _ _ due refl refl c.tick_direct.ensures)
+    (ticked-due c.self.inside.board c.tick_direct.new.board c.self.inside.pages.items c.tick_direct.new.pages.items
+    c.args.moment (processors s) Done none_owed _ _ _ due refl refl c.tick_direct.ensures)

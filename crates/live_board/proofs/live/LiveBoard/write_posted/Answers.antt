@@ -11,10 +11,13 @@ use Rattle.live_board.proofs.Shadowed.{live, timed-at, timed-shadows, same-shado
 use Rattle.live_board.proofs.live.LiveBoard.write_posted.Goals as goal
 
 pub invariant_of-self : goal.invariant_of-self
-invariant_of-self c = same-shadows _ _ _ (not-timed-own _ _ _ _ _ c.requires.timer (search rules) c.perform.ensures.performs.step) c.self.invariant
+invariant_of-self c =
+    same-shadows _ _ _ (not-timed-own _ _ _ _ _ c.requires.timer (search rules) c.perform.ensures.performs.step)
+    c.self.invariant
 
 pub returns-in_default-clause-refused : goal.returns-in_default-clause-refused
-returns-in_default-clause-refused c none = (quietly-at _ _ _ _ _ _ c.self.view_is (record { pages = refl; performs = c.perform.ensures.performs }), refl)
+returns-in_default-clause-refused c none =
+    (quietly-at _ _ _ _ _ _ c.self.view_is (record { pages = refl; performs = c.perform.ensures.performs }), refl)
 
 pub invariant_of-self-2 : goal.invariant_of-self-2
 invariant_of-self-2 c =
@@ -24,9 +27,13 @@ invariant_of-self-2 c =
     let on = timer-on s p c.args.event.now (search rules) in
     let inside : 2 * p < length s.own = omega (arith, on, c.facts.ensures.shape.overlays) in
     let there : 2 * p < length pages = omega (arith, inside, c.self.invariant.count) in
-    let page = page-at pages (2 * p) c.index_mut-page.result.now there (c.index_mut-page.ensures.value ∙ ap (λ n. get_or pages n c.index_mut-page.result.now) c.index_of.ensures) in
-    let part = subst (λ l. IsTimedPart s p l c.args.event.now c.time_posted.new.board.state c.time_posted.new.page c.time_posted.result.0 c.time_posted.result.1 c.time_posted.new.notices) page c.time_posted.ensures in
-    subst (λ n. Shadows c.time_posted.new.board.state (set pages n c.time_posted.new.page)) (sym c.index_of.ensures) (timed-shadows s _ pages p _ _ _ _ _ inside c.self.invariant part)
+    let page = page-at pages (2 * p) c.index_mut-page.result.now there
+    (c.index_mut-page.ensures.value ∙ ap (λ n. get_or pages n c.index_mut-page.result.now) c.index_of.ensures) in
+    let part = subst
+    (λ l. IsTimedPart s p l c.args.event.now c.time_posted.new.board.state c.time_posted.new.page
+    c.time_posted.result.0 c.time_posted.result.1 c.time_posted.new.notices) page c.time_posted.ensures in
+    subst (λ n. Shadows c.time_posted.new.board.state (set pages n c.time_posted.new.page)) (sym c.index_of.ensures)
+    (timed-shadows s _ pages p _ _ _ _ _ inside c.self.invariant part)
 
 pub returns-clause-timed : goal.returns-clause-timed
 returns-clause-timed c p is =
@@ -36,12 +43,20 @@ returns-clause-timed c p is =
     let here : timer_of s c.args.event.now ≡ Some p = subst at (sym c.self.view_is) is in
     let same : c.in-Some.vp ≡ p = search rules in
     let on = timer-on s c.in-Some.vp c.args.event.now (search rules) in
-    let there : 2 * c.in-Some.vp < length pages = omega (arith, on, c.facts.ensures.shape.overlays, c.self.invariant.count) in
-    let page = page-at pages (2 * c.in-Some.vp) c.index_mut-page.result.now there (c.index_mut-page.ensures.value ∙ ap (λ n. get_or pages n c.index_mut-page.result.now) c.index_of.ensures) in
-    subst (λ n. IsTimed n c.args.self.now c.args.event.now (live c.time_posted.new.board (set pages c.index_of.result c.time_posted.new.page)) c.time_posted.result.0 c.time_posted.result.1 c.time_posted.new.notices) same
-    (timed-at c.self.inside.board c.time_posted.new.board pages c.args.self.now c.in-Some.vp c.index_of.result c.index_mut-page.result.now c.time_posted.new.page _ _ _ _ c.self.view_is c.index_of.ensures page c.time_posted.ensures)
+    let there : 2 * c.in-Some.vp < length pages =
+    omega (arith, on, c.facts.ensures.shape.overlays, c.self.invariant.count) in
+    let page = page-at pages (2 * c.in-Some.vp) c.index_mut-page.result.now there
+    (c.index_mut-page.ensures.value ∙ ap (λ n. get_or pages n c.index_mut-page.result.now) c.index_of.ensures) in
+    subst (λ n. IsTimed n c.args.self.now c.args.event.now
+    (live c.time_posted.new.board (set pages c.index_of.result c.time_posted.new.page)) c.time_posted.result.0
+    c.time_posted.result.1 c.time_posted.new.notices) same
+    (timed-at c.self.inside.board c.time_posted.new.board pages c.args.self.now c.in-Some.vp c.index_of.result
+    c.index_mut-page.result.now c.time_posted.new.page _ _ _ _ c.self.view_is c.index_of.ensures page
+    c.time_posted.ensures)
 
 pub time_posted-requires-clause-posted : goal.time_posted-requires-clause-posted
 time_posted-requires-clause-posted c =
-    let posted = subst (λ (m : LiveModel). (p : ℕ) → timer_of m.board.state c.args.event.now ≡ Some p → is_direct_write m.board.state c.args.event.now ≡ false) (sym c.self.view_is) c.requires.posted in
+    let posted =
+    subst (λ (m : LiveModel). (p : ℕ) → timer_of m.board.state c.args.event.now ≡ Some p
+    → is_direct_write m.board.state c.args.event.now ≡ false) (sym c.self.view_is) c.requires.posted in
     posted c.in-Some.vp (search rules)

@@ -20,8 +20,11 @@ pub write_posted-requires-clause-posted : goal.write_posted-requires-clause-post
 write_posted-requires-clause-posted c =
     let is = timer-write-as _ _ _ c.args.event.now c.requires c.written-number.ensures in
     let no : c.write_direct.result ≡ false = search rules in
-    let posted = subst (λ (e : Event). (p : ℕ) → timer_of c.args.self.now.board.state e ≡ Some p → is_direct_write c.args.self.now.board.state e ≡ false) (sym is) (c.write_direct.ensures.posted no) in
-    subst (λ (m : LiveModel). (p : ℕ) → timer_of m.board.state c.args.event.now ≡ Some p → is_direct_write m.board.state c.args.event.now ≡ false) (sym (c.write_direct.ensures.left no)) posted
+    let posted =
+    subst (λ (e : Event). (p : ℕ) → timer_of c.args.self.now.board.state e ≡ Some p
+    → is_direct_write c.args.self.now.board.state e ≡ false) (sym is) (c.write_direct.ensures.posted no) in
+    subst (λ (m : LiveModel). (p : ℕ) → timer_of m.board.state c.args.event.now ≡ Some p
+    → is_direct_write m.board.state c.args.event.now ≡ false) (sym (c.write_direct.ensures.left no)) posted
 
 pub returns-then-write_direct-clause-timed : goal.returns-then-write_direct-clause-timed
 returns-then-write_direct-clause-timed c p at =
@@ -32,10 +35,13 @@ returns-then-write_direct-clause-timed c p at =
     let number : ℕ = c.written-number.result.0 in
     let event : Event = Write number c.written-number.result.1 c.written-number.result.2 in
     let by : IsTimerWriteBy number event = (refl, timer) in
-    let there = sym (timer-there c.args.self.now.board.state number event by done.0) ∙ subst (λ (e : Event). timer_of c.args.self.now.board.state e ≡ Some p) is at in
+    let there = sym (timer-there c.args.self.now.board.state number event by done.0)
+    ∙ subst (λ (e : Event). timer_of c.args.self.now.board.state e ≡ Some p) is at in
     let same : number ≡ p = cc in
-    subst (λ q. IsTimed q c.args.self.now c.args.event.now c.write_direct.new.self Done false c.write_direct.new.notices) same
-    (subst (λ (e : Event). IsTimed number c.args.self.now e c.write_direct.new.self Done false c.write_direct.new.notices) (sym is) done.1)
+    subst (λ q. IsTimed q c.args.self.now c.args.event.now c.write_direct.new.self Done false
+    c.write_direct.new.notices) same
+    (subst (λ (e : Event). IsTimed number c.args.self.now e c.write_direct.new.self Done false
+    c.write_direct.new.notices) (sym is) done.1)
 
 pub returns-then-write_direct-clause-refused : goal.returns-then-write_direct-clause-refused
 returns-then-write_direct-clause-refused c none =
@@ -46,15 +52,20 @@ returns-then-write_direct-clause-refused c none =
     let number : ℕ = c.written-number.result.0 in
     let event : Event = Write number c.written-number.result.1 c.written-number.result.2 in
     let by : IsTimerWriteBy number event = (refl, timer) in
-    let there = sym (timer-there c.args.self.now.board.state number event by done.0) ∙ subst (λ (e : Event). timer_of c.args.self.now.board.state e ≡ None) is none in
+    let there = sym (timer-there c.args.self.now.board.state number event by done.0)
+    ∙ subst (λ (e : Event). timer_of c.args.self.now.board.state e ≡ None) is none in
     absurd (cc)
 
 pub returns-clause-timed : goal.returns-clause-timed
 returns-clause-timed c =
     let no : c.write_direct.result ≡ false = search rules in
-    subst (λ (m : LiveModel). (p : ℕ) → timer_of m.board.state c.args.event.now ≡ Some p → IsTimed p m c.args.event.now c.write_posted.new.self c.write_posted.result.0 c.write_posted.result.1 c.write_posted.new.notices) (c.write_direct.ensures.left no) c.write_posted.ensures.timed
+    subst (λ (m : LiveModel). (p : ℕ) → timer_of m.board.state c.args.event.now ≡ Some p
+    → IsTimed p m c.args.event.now c.write_posted.new.self c.write_posted.result.0 c.write_posted.result.1
+    c.write_posted.new.notices) (c.write_direct.ensures.left no) c.write_posted.ensures.timed
 
 pub returns-clause-refused : goal.returns-clause-refused
 returns-clause-refused c =
     let no : c.write_direct.result ≡ false = search rules in
-    subst (λ (m : LiveModel). timer_of m.board.state c.args.event.now ≡ None → IsQuietly m c.args.event.now c.write_posted.new.self c.write_posted.result.0 c.write_posted.new.notices × (c.write_posted.result.1 ≡ false)) (c.write_direct.ensures.left no) c.write_posted.ensures.refused
+    subst (λ (m : LiveModel). timer_of m.board.state c.args.event.now ≡ None
+    → IsQuietly m c.args.event.now c.write_posted.new.self c.write_posted.result.0 c.write_posted.new.notices
+    × (c.write_posted.result.1 ≡ false)) (c.write_direct.ensures.left no) c.write_posted.ensures.refused

@@ -10,11 +10,23 @@ pub returns : goal.returns
 returns c = elim c.match-target.branch [
   | in-Some w ↦
       let there : nat_lt c.args.vp (processors c.args.self.now.board.state) ≡ true = search rules in
-      subst (λ (b : Bool). IsTimedWrite b c.args.vp c.args.self.now (Write c.args.vp c.args.register c.args.value) c.write_posted-reply.new.self c.write_posted-reply.result.0 c.match-target.owed c.write_posted-reply.new.notices) (sym there)
-      (c.write_posted-reply.result.1, c.write_posted-reply.ensures.timed c.args.vp (timer-there c.args.self.now.board.state c.args.vp (Write c.args.vp c.args.register c.args.value) c.requires.timer there), search rules)
+      subst (λ (b : Bool). IsTimedWrite b c.args.vp c.args.self.now
+      (Write c.args.vp c.args.register c.args.value) c.write_posted-reply.new.self c.write_posted-reply.result.0
+      c.match-target.owed c.write_posted-reply.new.notices) (sym there) (
+        c.write_posted-reply.result.1,
+        c.write_posted-reply.ensures.timed c.args.vp
+            (timer-there c.args.self.now.board.state c.args.vp
+            (Write c.args.vp c.args.register c.args.value) c.requires.timer there),
+        search rules,
+      )
   | in_default w ↦
       let there : nat_lt c.args.vp (processors c.args.self.now.board.state) ≡ false = search rules in
-      let refused = c.write_posted-reply.ensures.refused (timer-none c.args.self.now.board.state c.args.vp (Write c.args.vp c.args.register c.args.value) c.requires.timer there) in
-      subst (λ (b : Bool). IsTimedWrite b c.args.vp c.args.self.now (Write c.args.vp c.args.register c.args.value) c.write_posted-reply.new.self c.write_posted-reply.result.0 c.match-target.owed c.write_posted-reply.new.notices) (sym there)
+      let refused =
+      c.write_posted-reply.ensures.refused
+      (timer-none c.args.self.now.board.state c.args.vp
+      (Write c.args.vp c.args.register c.args.value) c.requires.timer there) in
+      subst (λ (b : Bool). IsTimedWrite b c.args.vp c.args.self.now
+      (Write c.args.vp c.args.register c.args.value) c.write_posted-reply.new.self c.write_posted-reply.result.0
+      c.match-target.owed c.write_posted-reply.new.notices) (sym there)
       (refused.0, search rules)
 ]
