@@ -1,4 +1,4 @@
--- What writes of timers and ticks leave behind: a source has the same messages, or its slot is occupied and has
+-- After writes of timers and ticks a source has the same messages, or its slot is occupied and has
 -- MessagePending.
 use Rattle.std.proofs.Common.{◌≡◌, ◌≢◌, ◌⊎◌, inl, inr, ℕ, ◌+◌, ◌*◌, ◌<◌, true, ◌&&◌, nat_lt, List, [], ◌∷◌, ◌++◌, length, get_or, Option, None, Some, refl, sym, ap, ◌∙◌, subst, arith, zero, suc}
 use Rattle.std.specs.Prelude.{◌==◌, if◌then◌else◌}

@@ -1,5 +1,5 @@
 // Reading the parts of a machine, for a board that is saved or inspected.
-ghost use Rattle.std.specs.Prelude.{◌≡◌, ◌≢◌, ◌↔◌, ◌<◌, ◌-◌, IsTrue, Some, None, slice_get, length, if◌then◌else◌};
+ghost use Rattle.std.specs.Prelude.{◌≡◌, ◌≢◌, ◌↔◌, ◌<◌, ◌-◌, IsTrue, None, slice_get, length};
 ghost use Rattle.message_queues.specs.Queues.{HasBuffer, port_used};
 ghost use Rattle.std.specs.Option.{option_copied};
 ghost use Rattle.synic_regs.specs.Regs.{stores, value_of};

@@ -1,5 +1,5 @@
 // Setting the parts of a machine, for a board that is restored.
-ghost use Rattle.std.specs.Prelude.{◌≡◌, ◌↔◌, ◌<◌, ◌≤◌, ◌+◌, ◌-◌, IsTrue, Some, length, if◌then◌else◌};
+ghost use Rattle.std.specs.Prelude.{◌≡◌, ◌↔◌, ◌<◌, ◌≤◌, ◌+◌, IsTrue, Some, length, if◌then◌else◌};
 ghost use Rattle.message_queues.specs.Queues.{HasBuffer};
 ghost use Rattle.stimer_bank.specs.Timer.{IsSoundTimer};
 ghost use Rattle.synic_board.specs.State.{processors, with_slot_ticket};
