@@ -1,5 +1,7 @@
 """Describes a step in words."""
 
+from boardevents import EVENTS, register
+
 REFUSALS = {
     1: "no such port is open", 2: "the port is open already", 3: "the port is of the other kind",
     4: "there is no such target", 5: "a post can't have this type", 6: "the port has no such flag",
@@ -9,19 +11,6 @@ REFUSALS = {
     16: "it is not suspended",
     17: "the page is in the memory of the caller",
 }
-
-REGISTERS = {0x40000020: "the reference counter", 0x40000070: "EOI", 0x40000072: "TPR", 0x40000080: "SCONTROL",
-             0x40000081: "SVERSION", 0x40000082: "SIEFP", 0x40000083: "SIMP", 0x40000084: "EOM"}
-
-
-def register(number):
-    if 0x40000090 <= number < 0x400000A0:
-        return "SINT%d" % (number - 0x40000090)
-    if 0x400000B0 <= number < 0x400000B8:
-        kind = ("CONFIG", "COUNT")[number % 2]
-        return "STIMER%d_%s" % ((number - 0x400000B0) // 2, kind)
-    return REGISTERS.get(number, "register %x" % number)
-
 
 def source_word(value):
     bits = [name for bit, name in ((16, "masked"), (17, "AutoEOI"), (18, "polling")) if value >> bit & 1]
@@ -60,37 +49,6 @@ def written(step, state):
         return timer_word(value)
     return "%d" % value
 
-
-def access(kind):
-    return lambda n: "processor %s %s %s" % (n[0], kind, register(int(n[1], 16)))
-
-
-def processors(mask):
-    """The processors of a mask."""
-    numbers = [str(p) for p in range(64) if mask >> p & 1]
-    if not numbers:
-        return "no processor"
-    return "processor%s %s" % ("s" if len(numbers) > 1 else "", ", ".join(numbers))
-
-
-EVENTS = {
-    "open": lambda n: "port %s is opened for SINT%s of processor %s" % (n[0], n[3], n[2]),
-    "close": lambda n: "port %s is closed" % n[0],
-    "write": access("writes"),
-    "read": access("reads"),
-    "post": lambda n: "a message of type %s is posted to port %s" % (n[1], n[0]),
-    "signal": lambda n: "flag %s of port %s is signalled" % (n[1], n[0]),
-    "assert": lambda n: "vector %s is asserted at processor %s" % (n[1], n[0]),
-    "absorb": lambda n: "posted vectors of processor %s are taken in" % n[0],
-    "store": lambda n: "a guest stores at %s" % n[0],
-    "load": lambda n: "a guest loads from %s" % n[0],
-    "tick": lambda n: "the clock goes on to %s" % n[0],
-    "take": lambda n: "processor %s takes its next interrupt" % n[0],
-    "suspend": lambda n: "processor %s is suspended" % n[0],
-    "resume": lambda n: "processor %s goes on" % n[0],
-    "reset": lambda n: "processor %s is reset" % n[0],
-    "send": lambda n: "vector %s is sent to %s" % (n[0], processors(int(n[1], 16))),
-}
 
 NOTICES = {
     "accepted": lambda n: "message %s joins the queue of SINT%s of processor %s" % (n[0], n[2], n[1]),
@@ -137,5 +95,5 @@ def explain(step, state):
     """The sentences for a step, given the state before it: the event with its reply, and each
     notice."""
     answer = reply(step, state)
-    first = EVENTS[step.words[0]](step.words[1:]) + (": " + answer if answer else "")
+    first = EVENTS[step.words[0]].sentence(step.words[1:]) + (": " + answer if answer else "")
     return [first] + [notice(words, step.notices[:i], state) for i, words in enumerate(step.notices)]

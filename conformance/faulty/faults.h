@@ -79,6 +79,7 @@
     F(slot_elsewhere, false, "slots have 128 bytes") \
     F(queues_shared, false, "a source's number alone chooses the slot: processor 0's") \
     F(eom_first_only, false, "EOM attempts delivery for the first queue only") \
+    F(eom_skips_source_0, false, "EOM attempts no delivery for SINT0") \
     F(eom_backwards, false, "EOM attempts delivery from SINT15 to SINT0") \
     F(eom_drains, false, "EOM withdraws what does not fit") \
     F(eom_everywhere, false, "EOM attempts delivery for all processors") \
@@ -225,6 +226,10 @@
     F(send_ignores, false, "a send ignores processors that are not on the board") \
     F(send_half, false, "a refused send reaches the processors that are on the board") \
     F(send_word, false, "a send looks at 32 bits of its mask") \
+    F(send_neighbour, false, "a send reaches the processors after those of its mask") \
+    F(send_skips_lowest, false, "a send leaves out the lowest processor of its mask") \
+    F(send_skips_highest, false, "a send leaves out the highest processor of its mask") \
+    F(empty_mask_refused, false, "a send to no processor is refused") \
     F(absorb_backwards, false, "an absorb requests the greatest vector first") \
     F(absorb_stops, false, "an absorb ends at a vector that is requested already") \
     F(absorb_one, false, "an absorb requests one vector") \
@@ -242,6 +247,7 @@
     F(tick_expires_33, false, "a tick expires 33 timers") \
     F(tick_expires_all, false, "a tick expires all timers that are due") \
     F(tick_by_number, false, "a tick takes the 32 due timers with the least numbers") \
+    F(tick_skips_index, false, "a tick does not try a timer after one with the same index") \
     F(tick_by_index, false, "timers of a sparse board with one deadline expire by their index, then by processor") \
     F(unready_counts, false, "a timer that is not ready counts among the 32 of a tick") \
     F(mask_bit_63, false, "a send ignores bit 63 of its mask") \

@@ -103,6 +103,13 @@ static struct peer_reply assert_irq(unsigned vp, unsigned vector)
     return done();
 }
 
+/* Whether a send leaves a processor of its mask out, by a fault. */
+static bool is_left_out(unsigned vp, uint64_t mask)
+{
+    bool is_lowest = (mask & (((uint64_t)1 << vp) - 1)) == 0, is_highest = mask >> vp == 1;
+    return (IS(send_skips_lowest) && is_lowest) || (IS(send_skips_highest) && is_highest);
+}
+
 static struct peer_reply send_interrupt(unsigned vector, uint64_t mask)
 {
     if (IS(send_word))
@@ -110,12 +117,12 @@ static struct peer_reply send_interrupt(unsigned vector, uint64_t mask)
     if (IS(mask_bit_63))
         mask &= UINT64_MAX >> 1;
     bool is_beyond = board.processors < PROCESSORS && mask >> board.processors != 0;
-    bool is_refused = is_beyond && !IS(send_ignores);
+    bool is_refused = (is_beyond && !IS(send_ignores)) || (IS(empty_mask_refused) && mask == 0);
     for (unsigned i = 0; i < board.processors && (!is_refused || IS(send_half)); i++) {
         unsigned vp = IS(send_backwards) ? board.processors - 1 - i : i;
-        if (!(mask >> vp & 1))
+        if (!(mask >> vp & 1) || is_left_out(vp, mask))
             continue;
-        request(vp, vector);
+        request(IS(send_neighbour) ? (vp + 1) % board.processors : vp, vector);
         if (IS(send_one))
             break;
     }

@@ -219,6 +219,8 @@ void end_of_message(unsigned vp)
         unsigned s = IS(eom_backwards) ? SOURCES - 1 - at : at;
         repeat(vp, s);
         bool is_tried = board.vps[vp].sources[s].first != NULL;
+        if (s == 0 && IS(eom_skips_source_0))
+            continue;
         try_delivery(vp, s);
         if (IS(eom_drains))
             drop_queued(vp, s, UINT32_MAX, true);

@@ -269,6 +269,8 @@ void try_due(void)
     size_t most = IS(tick_expires_all) ? count : IS(tick_expires_33) ? MOST_EXPIRIES + 1 : MOST_EXPIRIES;
     size_t expired = 0, at = 0;
     for (count = looked_at(count); at < count && expired < most; at++) {
+        if (IS(tick_skips_index) && at > 0 && list[at].index == list[at - 1].index)
+            continue;
         expired += try_at_its_turn(&list[at]);
         if (IS(one_timer))
             return;

@@ -2,30 +2,7 @@
 
 import collections
 
-REFUSALS = {
-    "open": (1, 2, 4), "close": (1,), "write": (14,), "read": (14,), "post": (1, 3, 5, 7, 8, 9), "signal": (1, 3, 6, 7),
-    "assert": (14,), "absorb": (14, 4), "store": (13, 11, 12), "load": (13, 11, 12), "tick": (10,), "take": (14,),
-    "suspend": (14, 15), "resume": (14, 16), "reset": (14,), "send": (14,),
-}
-
-# Those of a sparse board alone.
-SPARSE_REFUSALS = {"store": (17,), "load": (17,)}
-
-REPLIES = {
-    "open": ("done",), "close": ("done",), "write": ("done", "general protection"), "read": ("value", "general protection"),
-    "post": ("accepted",), "signal": ("clear", "set"), "assert": ("done",), "absorb": ("done",), "store": ("done",), "load": ("bytes",),
-    "tick": ("done",), "take": ("taken vector", "taken none"), "suspend": ("done",), "resume": ("done",), "reset": ("done",),
-    "send": ("done",),
-}
-
-NOTICES = {
-    "post": ("accepted", "placed", "pending", "requested"), "signal": ("flag", "requested"), "assert": ("requested",), "absorb": ("requested",),
-    "store": ("consumed",), "close": ("withdrawn",), "reset": ("withdrawn",),
-    "send": ("requested",),
-    "tick": ("expired", "skipped", "requested", "accepted", "placed", "pending"),
-    "write": ("expired", "requested", "accepted", "placed", "pending"),
-}
-
+from boardevents import EVENTS
 
 def reply_kind(reply):
     words = reply.split(" ")
@@ -62,14 +39,14 @@ class Coverage:
         """What can happen by docs/MACHINE.md and docs/FORMATS.md, and has not."""
         replies = {(event, reply) for event, reply, _ in self.seen}
         notices = {(event, notice) for event, _, kinds in self.seen for notice in kinds.split()}
-        for event in REPLIES:
-            if event in without:
+        for word, event in EVENTS.items():
+            if word in without:
                 continue
-            numbers = REFUSALS[event] + (SPARSE_REFUSALS.get(event, ()) if has_sparse else ())
-            wanted = REPLIES[event] + tuple("refused %d" % number for number in numbers)
+            numbers = event.refusals + (event.sparse_refusals if has_sparse else ())
+            wanted = event.replies + tuple("refused %d" % number for number in numbers)
             for reply in wanted:
-                if (event, reply) not in replies:
-                    yield "%s: = %s" % (event, reply)
-            for notice in NOTICES.get(event, ()):
-                if (event, notice) not in notices:
-                    yield "%s: . %s" % (event, notice)
+                if (word, reply) not in replies:
+                    yield "%s: = %s" % (word, reply)
+            for notice in event.notices:
+                if (word, notice) not in notices:
+                    yield "%s: . %s" % (word, notice)

@@ -4,6 +4,7 @@ pub mod Numbering
 pub mod Taking
 pub mod Matching
 pub mod Counting
+pub mod Absorbed
 pub mod Absorbs
 pub mod Following
 pub mod Started

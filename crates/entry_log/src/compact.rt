@@ -120,6 +120,31 @@ pub(crate) fn bytes_of_reply(reply: &Reply) -> &[u8]
     }
 }
 
+/// An event as one of the other type with the same numbers. The arms of those with bytes are the caller's.
+macro_rules! same_numbers {
+    ($event:expr, $From:ident, $To:ident, $($with_bytes:tt)*) => {
+        match $event {
+            $($with_bytes)*
+            $From::OpenPort { port, vp, sint, shape } => {
+                $To::OpenPort { port: *port, vp: *vp, sint: *sint, shape: *shape }
+            }
+            $From::ClosePort { port } => $To::ClosePort { port: *port },
+            $From::Write { vp, register, value } => $To::Write { vp: *vp, register: *register, value: *value },
+            $From::Read { vp, register } => $To::Read { vp: *vp, register: *register },
+            $From::Signal { port, flag } => $To::Signal { port: *port, flag: *flag },
+            $From::Assert { vp, vector } => $To::Assert { vp: *vp, vector: *vector },
+            $From::Absorb { vp, part, bits } => $To::Absorb { vp: *vp, part: *part, bits: *bits },
+            $From::Load { address, length } => $To::Load { length: *length, address: *address },
+            $From::Tick { moment } => $To::Tick { moment: *moment },
+            $From::Take { vp } => $To::Take { vp: *vp },
+            $From::Suspend { vp } => $To::Suspend { vp: *vp },
+            $From::Resume { vp } => $To::Resume { vp: *vp },
+            $From::Reset { vp } => $To::Reset { vp: *vp },
+            $From::Send { vector, mask } => $To::Send { vector: *vector, mask: *mask },
+        }
+    };
+}
+
 impl CompactEvent {
     /// The numbers of an event.
     pub(crate) fn of(event: &Event) -> CompactEvent
@@ -127,72 +152,15 @@ impl CompactEvent {
         ensures count { event_count result ≡ length (event_bytes event.now) }
         ensures bound { event_count result ≤ event_most result }
     {
-        match event {
-            Event::OpenPort {
-                port,
-                vp,
-                sint,
-                shape,
-            } => CompactEvent::OpenPort {
-                port: *port,
-                vp: *vp,
-                sint: *sint,
-                shape: *shape,
-            },
-            Event::ClosePort { port } => CompactEvent::ClosePort { port: *port },
-            Event::Write {
-                vp,
-                register,
-                value,
-            } => CompactEvent::Write {
-                vp: *vp,
-                register: *register,
-                value: *value,
-            },
-            Event::Read { vp, register } => CompactEvent::Read {
-                vp: *vp,
-                register: *register,
-            },
-            Event::Post {
-                port,
-                kind,
-                payload,
-            } => CompactEvent::Post {
-                port: *port,
-                count: payload.len() as u8,
-                kind: *kind,
-            },
-            Event::Signal { port, flag } => CompactEvent::Signal {
-                port: *port,
-                flag: *flag,
-            },
-            Event::Assert { vp, vector } => CompactEvent::Assert {
-                vp: *vp,
-                vector: *vector,
-            },
-            Event::Absorb { vp, part, bits } => CompactEvent::Absorb {
-                vp: *vp,
-                part: *part,
-                bits: *bits,
-            },
-            Event::Store { address, bytes } => CompactEvent::Store {
-                count: bytes.len() as u8,
-                address: *address,
-            },
-            Event::Load { address, length } => CompactEvent::Load {
-                length: *length,
-                address: *address,
-            },
-            Event::Tick { moment } => CompactEvent::Tick { moment: *moment },
-            Event::Take { vp } => CompactEvent::Take { vp: *vp },
-            Event::Suspend { vp } => CompactEvent::Suspend { vp: *vp },
-            Event::Resume { vp } => CompactEvent::Resume { vp: *vp },
-            Event::Reset { vp } => CompactEvent::Reset { vp: *vp },
-            Event::Send { vector, mask } => CompactEvent::Send {
-                vector: *vector,
-                mask: *mask,
-            },
-        }
+        same_numbers!(
+            event, Event, CompactEvent,
+            Event::Post { port, kind, payload } => {
+                CompactEvent::Post { port: *port, count: payload.len() as u8, kind: *kind }
+            }
+            Event::Store { address, bytes } => {
+                CompactEvent::Store { count: bytes.len() as u8, address: *address }
+            }
+        )
     }
 
     /// How many bytes the event has.
@@ -213,49 +181,13 @@ impl CompactEvent {
         requires bound { event_count self ≤ event_most self }
         ensures { result ≡ event_with own.now self }
     {
-        match self {
-            CompactEvent::OpenPort {
-                port,
-                vp,
-                sint,
-                shape,
-            } => Event::OpenPort {
-                port,
-                vp,
-                sint,
-                shape,
-            },
-            CompactEvent::ClosePort { port } => Event::ClosePort { port },
-            CompactEvent::Write {
-                vp,
-                register,
-                value,
-            } => Event::Write {
-                vp,
-                register,
-                value,
-            },
-            CompactEvent::Read { vp, register } => Event::Read { vp, register },
-            CompactEvent::Post { port, kind, .. } => Event::Post {
-                port,
-                kind,
-                payload: array_of(own),
-            },
-            CompactEvent::Signal { port, flag } => Event::Signal { port, flag },
-            CompactEvent::Assert { vp, vector } => Event::Assert { vp, vector },
-            CompactEvent::Absorb { vp, part, bits } => Event::Absorb { vp, part, bits },
-            CompactEvent::Store { address, .. } => Event::Store {
-                address,
-                bytes: array_of(own),
-            },
-            CompactEvent::Load { length, address } => Event::Load { address, length },
-            CompactEvent::Tick { moment } => Event::Tick { moment },
-            CompactEvent::Take { vp } => Event::Take { vp },
-            CompactEvent::Suspend { vp } => Event::Suspend { vp },
-            CompactEvent::Resume { vp } => Event::Resume { vp },
-            CompactEvent::Reset { vp } => Event::Reset { vp },
-            CompactEvent::Send { vector, mask } => Event::Send { vector, mask },
-        }
+        same_numbers!(
+            &self, CompactEvent, Event,
+            CompactEvent::Post { port, kind, .. } => {
+                Event::Post { port: *port, kind: *kind, payload: array_of(own) }
+            }
+            CompactEvent::Store { address, .. } => Event::Store { address: *address, bytes: array_of(own) },
+        )
     }
 }
 

@@ -1,6 +1,5 @@
 pub mod Published
 pub mod Rows
 pub mod Runs
-pub mod Absorbed
 pub mod Spread
 pub mod Watchers

@@ -17,7 +17,7 @@ use Rattle.board_threads.specs.History.{Call, call_of, calls_by}
 use Rattle.board_threads.specs.Sweeps.{sweeps_of}
 use Rattle.board_threads.specs.Settling.{AreAbsorbed}
 use Rattle.board_threads.proofs.Counting.{sum-map}
-use Rattle.shared_board.proofs.Absorbed.{absorbed}
+use Rattle.board_threads.proofs.Absorbed.{absorbed}
 use Rattle.shared_board.specs.Calling.{Calling}
 use Rattle.shared_board.specs.Sweeping.{OnlyRaises, swept_by}
 use Rattle.shared_board.specs.Witnessed.{IsEnded}

@@ -91,7 +91,7 @@ impl Draft {
     pub fn pages(&self) -> u8
         ensures { result ≡ length self.now.pages }
     {
-        self.machine.pages()
+        self.machine.page_count
     }
 
     /// Sets the present time, in units of 100 ns, unless it would go back, and returns whether it did.

@@ -2,7 +2,6 @@
 ghost use Rattle.std.specs.Prelude.{◌≡◌, ◌≢◌, ◌<◌, ◌≤◌, ◌+◌, ◌↔◌, length, replicate, None, IfOk, IsSome, IfSome};
 ghost use Rattle.synic_board.specs.declared.event.Event.TheVariants.{Post, Store};
 ghost use Rattle.synic_board.specs.State.{opened, processors};
-ghost use Rattle.synic_board.specs.Summaries.{summary_of, stored_summary, HasSizes};
 ghost use Rattle.synic_board.specs.Step.{step};
 ghost use Rattle.synic_board.specs.Sound.{IsSound, PayloadFits};
 ghost use Rattle.synic_board.specs.Buffers.{HasBuffers};
@@ -36,23 +35,23 @@ use stimer_bank::TimerBank;
 use synic_regs::SynicRegs;
 
 /// The parts of a board. The contract shows the state of the reference model, and how often the
-/// cached summary was written.
+/// cached summary was written. `Board` and `Draft` read the parts, and change them by calls alone.
 #[derive(Drop)]
 pub(crate) struct Machine {
-    page_count: u8,
-    moment: Moment,
-    next_ticket: Ticket,
-    lapics: Vec<Lapic>,
-    regs: Vec<SynicRegs>,
-    space: Space,
-    ports: Ports,
-    queues: Queues,
+    pub(crate) page_count: u8,
+    pub(crate) moment: Moment,
+    pub(crate) next_ticket: Ticket,
+    pub(crate) lapics: Vec<Lapic>,
+    pub(crate) regs: Vec<SynicRegs>,
+    pub(crate) space: Space,
+    pub(crate) ports: Ports,
+    pub(crate) queues: Queues,
     // the ticket in the message slot of each source, those of processor 0 first
-    slots: Vec<Option<Ticket>>,
-    timers: TimerBank,
+    pub(crate) slots: Vec<Option<Ticket>>,
+    pub(crate) timers: TimerBank,
     // cache: each event updates the values that it changes, so it always equals the summary
     // computed from scratch
-    summary: Summary,
+    pub(crate) summary: Summary,
 }
 
 impl Model for Machine {
@@ -108,14 +107,6 @@ impl Machine {
         })
     }
 
-    /// The cached summary, by reference.
-    pub(crate) fn summary(&self) -> &Summary
-        ensures value { result.now ≡ stored_summary (summary_of self.now.state) self.now.writes }
-        ensures sizes { HasSizes (processors self.now.state) (length self.now.state.pages) result.now.values }
-    {
-        &self.summary
-    }
-
     /// The number of processors on the board.
     pub(crate) fn processors(&self) -> u8
         ensures count { result ≡ processors self.now.state }
@@ -123,27 +114,6 @@ impl Machine {
         ensures dense { length self.now.state.pages ≢ 0 → result ≤ 8 }
     {
         self.lapics.len() as u8
-    }
-
-    /// The number of guest pages.
-    pub(crate) fn pages(&self) -> u8
-        ensures { result ≡ length self.now.state.pages }
-    {
-        self.page_count
-    }
-
-    /// The present time.
-    pub(crate) fn moment(&self) -> Moment
-        ensures { result ≡ self.now.state.moment }
-    {
-        self.moment
-    }
-
-    /// The ticket that the next accepted message gets.
-    pub(crate) fn next_ticket(&self) -> Ticket
-        ensures { result ≡ self.now.state.next_ticket }
-    {
-        self.next_ticket
     }
 
     /// Performs an event, replaces the contents of `notices` by its notices, and returns its reply.

@@ -266,30 +266,30 @@ open-says fs event =
 pub event-says : (fs : Fields) (event : Event) → parse_event fs ≡ Some event → Says fs event
 event-says [] event e = cc
 event-says (word ∷ fs) event e =
-    yes (bytes_eq word (codes "open")) (parse_open fs) _ event (Says (word ∷ fs) event)
+    yes (bytes_eq word (codes "write")) (parse_write fs) _ event (Says (word ∷ fs) event)
+    (λ is e. worded (λ w. Says (w ∷ fs) event) word (codes "write") is (write-says fs event e))
+    (yes (bytes_eq word (codes "store")) (parse_store fs) _ event (Says (word ∷ fs) event)
+    (λ is e. worded (λ w. Says (w ∷ fs) event) word (codes "store") is (store-says fs event e))
+    (yes (bytes_eq word (codes "take")) (parse_take fs) _ event (Says (word ∷ fs) event)
+    (λ is e. worded (λ w. Says (w ∷ fs) event) word (codes "take") is (take-says fs event e))
+    (yes (bytes_eq word (codes "assert")) (parse_assert fs) _ event (Says (word ∷ fs) event)
+    (λ is e. worded (λ w. Says (w ∷ fs) event) word (codes "assert") is (assert-says fs event e))
+    (yes (bytes_eq word (codes "tick")) (parse_tick fs) _ event (Says (word ∷ fs) event)
+    (λ is e. worded (λ w. Says (w ∷ fs) event) word (codes "tick") is (tick-says fs event e))
+    (yes (bytes_eq word (codes "signal")) (parse_signal fs) _ event (Says (word ∷ fs) event)
+    (λ is e. worded (λ w. Says (w ∷ fs) event) word (codes "signal") is (signal-says fs event e))
+    (yes (bytes_eq word (codes "post")) (parse_post fs) _ event (Says (word ∷ fs) event)
+    (λ is e. worded (λ w. Says (w ∷ fs) event) word (codes "post") is (post-says fs event e))
+    (yes (bytes_eq word (codes "load")) (parse_load fs) _ event (Says (word ∷ fs) event)
+    (λ is e. worded (λ w. Says (w ∷ fs) event) word (codes "load") is (load-says fs event e))
+    (yes (bytes_eq word (codes "read")) (parse_read fs) _ event (Says (word ∷ fs) event)
+    (λ is e. worded (λ w. Says (w ∷ fs) event) word (codes "read") is (read-says fs event e))
+    (yes (bytes_eq word (codes "open")) (parse_open fs) _ event (Says (word ∷ fs) event)
     (λ is e. worded (λ w. Says (w ∷ fs) event) word (codes "open") is (open-says fs event e))
     (yes (bytes_eq word (codes "close")) (parse_close fs) _ event (Says (word ∷ fs) event)
     (λ is e. worded (λ w. Says (w ∷ fs) event) word (codes "close") is (close-says fs event e))
-    (yes (bytes_eq word (codes "write")) (parse_write fs) _ event (Says (word ∷ fs) event)
-    (λ is e. worded (λ w. Says (w ∷ fs) event) word (codes "write") is (write-says fs event e))
-    (yes (bytes_eq word (codes "read")) (parse_read fs) _ event (Says (word ∷ fs) event)
-    (λ is e. worded (λ w. Says (w ∷ fs) event) word (codes "read") is (read-says fs event e))
-    (yes (bytes_eq word (codes "post")) (parse_post fs) _ event (Says (word ∷ fs) event)
-    (λ is e. worded (λ w. Says (w ∷ fs) event) word (codes "post") is (post-says fs event e))
-    (yes (bytes_eq word (codes "signal")) (parse_signal fs) _ event (Says (word ∷ fs) event)
-    (λ is e. worded (λ w. Says (w ∷ fs) event) word (codes "signal") is (signal-says fs event e))
-    (yes (bytes_eq word (codes "assert")) (parse_assert fs) _ event (Says (word ∷ fs) event)
-    (λ is e. worded (λ w. Says (w ∷ fs) event) word (codes "assert") is (assert-says fs event e))
     (yes (bytes_eq word (codes "absorb")) (parse_absorb fs) _ event (Says (word ∷ fs) event)
     (λ is e. worded (λ w. Says (w ∷ fs) event) word (codes "absorb") is (absorb-says fs event e))
-    (yes (bytes_eq word (codes "store")) (parse_store fs) _ event (Says (word ∷ fs) event)
-    (λ is e. worded (λ w. Says (w ∷ fs) event) word (codes "store") is (store-says fs event e))
-    (yes (bytes_eq word (codes "load")) (parse_load fs) _ event (Says (word ∷ fs) event)
-    (λ is e. worded (λ w. Says (w ∷ fs) event) word (codes "load") is (load-says fs event e))
-    (yes (bytes_eq word (codes "tick")) (parse_tick fs) _ event (Says (word ∷ fs) event)
-    (λ is e. worded (λ w. Says (w ∷ fs) event) word (codes "tick") is (tick-says fs event e))
-    (yes (bytes_eq word (codes "take")) (parse_take fs) _ event (Says (word ∷ fs) event)
-    (λ is e. worded (λ w. Says (w ∷ fs) event) word (codes "take") is (take-says fs event e))
     (yes (bytes_eq word (codes "suspend")) (parse_suspend fs) _ event (Says (word ∷ fs) event)
     (λ is e. worded (λ w. Says (w ∷ fs) event) word (codes "suspend") is (suspend-says fs event e))
     (yes (bytes_eq word (codes "resume")) (parse_resume fs) _ event (Says (word ∷ fs) event)
@@ -425,27 +425,16 @@ says-opening n g f h =
     ∙ then-read pages_at _ (pages_field g) g _ (pages-spelled g h.1)
     ∙ then-read u64_at _ (decimal f) f [] (u64-spelled f h.2)
 
+-- the word of an event is none of the others
+item-event : (event : Event)
+    → parse_item (event_fields event) ≡ option_map Performs (parse_event (event_fields event))
+item-event (OpenPort port vp sint (Messages buffers)) = refl
+item-event (OpenPort port vp sint (Flags base count)) = refl
+item-event event = refl
+
 says-item : (item : Item) → IsItem item → parse_item (item_fields item) ≡ Some item
 says-item (Opening n g f) h = ap (option_map (λ (p : ℕ × Option ℕ × ℕ). Opening p.0 p.1 p.2)) (says-opening n g f h)
-says-item (Performs (OpenPort port vp sint (Messages buffers))) h =
-    ap (option_map Performs) (says-event (OpenPort port vp sint (Messages buffers)) h)
-says-item (Performs (OpenPort port vp sint (Flags base count))) h =
-    ap (option_map Performs) (says-event (OpenPort port vp sint (Flags base count)) h)
-says-item (Performs (ClosePort port)) h = ap (option_map Performs) (says-event (ClosePort port) h)
-says-item (Performs (Post port kind payload)) h = ap (option_map Performs) (says-event (Post port kind payload) h)
-says-item (Performs (Signal port flag)) h = ap (option_map Performs) (says-event (Signal port flag) h)
-says-item (Performs (Store address bytes)) h = ap (option_map Performs) (says-event (Store address bytes) h)
-says-item (Performs (Load address count)) h = ap (option_map Performs) (says-event (Load address count) h)
-says-item (Performs (Tick moment)) h = ap (option_map Performs) (says-event (Tick moment) h)
-says-item (Performs (Write vp register value)) h = ap (option_map Performs) (says-event (Write vp register value) h)
-says-item (Performs (Read vp register)) h = ap (option_map Performs) (says-event (Read vp register) h)
-says-item (Performs (Assert vp vector)) h = ap (option_map Performs) (says-event (Assert vp vector) h)
-says-item (Performs (Absorb vp part bits)) h = ap (option_map Performs) (says-event (Absorb vp part bits) h)
-says-item (Performs (Take vp)) h = ap (option_map Performs) (says-event (Take vp) h)
-says-item (Performs (Suspend vp)) h = ap (option_map Performs) (says-event (Suspend vp) h)
-says-item (Performs (Resume vp)) h = ap (option_map Performs) (says-event (Resume vp) h)
-says-item (Performs (Reset vp)) h = ap (option_map Performs) (says-event (Reset vp) h)
-says-item (Performs (Send vector mask)) h = ap (option_map Performs) (says-event (Send vector mask) h)
+says-item (Performs event) h = item-event event ∙ ap (option_map Performs) (says-event event h)
 says-item Summary h = refl
 
 pub event-item : (fs : Fields) (event : Event) → parse_event fs ≡ Some event → parse_item fs ≡ Some (Performs event)
@@ -464,18 +453,18 @@ other-word word key rest other = by (bytes_eq word key) refl
 
 -- fields that begin with no event's word
 pub record NoEvent (fields : Fields) : Type 0 where
+  pub not_write : IsOther (codes "write") fields
+  pub not_store : IsOther (codes "store") fields
+  pub not_take : IsOther (codes "take") fields
+  pub not_assert : IsOther (codes "assert") fields
+  pub not_tick : IsOther (codes "tick") fields
+  pub not_signal : IsOther (codes "signal") fields
+  pub not_post : IsOther (codes "post") fields
+  pub not_load : IsOther (codes "load") fields
+  pub not_read : IsOther (codes "read") fields
   pub not_open : IsOther (codes "open") fields
   pub not_close : IsOther (codes "close") fields
-  pub not_write : IsOther (codes "write") fields
-  pub not_read : IsOther (codes "read") fields
-  pub not_post : IsOther (codes "post") fields
-  pub not_signal : IsOther (codes "signal") fields
-  pub not_assert : IsOther (codes "assert") fields
   pub not_absorb : IsOther (codes "absorb") fields
-  pub not_store : IsOther (codes "store") fields
-  pub not_load : IsOther (codes "load") fields
-  pub not_tick : IsOther (codes "tick") fields
-  pub not_take : IsOther (codes "take") fields
   pub not_suspend : IsOther (codes "suspend") fields
   pub not_resume : IsOther (codes "resume") fields
   pub not_reset : IsOther (codes "reset") fields
@@ -485,18 +474,18 @@ pub no-event : (fields : Fields) → NoEvent fields → parse_event fields ≡ N
 no-event [] other = refl
 no-event (word ∷ rest) other =
     rw (
+      other-word word (codes "write") rest other.not_write,
+      other-word word (codes "store") rest other.not_store,
+      other-word word (codes "take") rest other.not_take,
+      other-word word (codes "assert") rest other.not_assert,
+      other-word word (codes "tick") rest other.not_tick,
+      other-word word (codes "signal") rest other.not_signal,
+      other-word word (codes "post") rest other.not_post,
+      other-word word (codes "load") rest other.not_load,
+      other-word word (codes "read") rest other.not_read,
       other-word word (codes "open") rest other.not_open,
       other-word word (codes "close") rest other.not_close,
-      other-word word (codes "write") rest other.not_write,
-      other-word word (codes "read") rest other.not_read,
-      other-word word (codes "post") rest other.not_post,
-      other-word word (codes "signal") rest other.not_signal,
-      other-word word (codes "assert") rest other.not_assert,
       other-word word (codes "absorb") rest other.not_absorb,
-      other-word word (codes "store") rest other.not_store,
-      other-word word (codes "load") rest other.not_load,
-      other-word word (codes "tick") rest other.not_tick,
-      other-word word (codes "take") rest other.not_take,
       other-word word (codes "suspend") rest other.not_suspend,
       other-word word (codes "resume") rest other.not_resume,
       other-word word (codes "reset") rest other.not_reset,

@@ -171,18 +171,18 @@ parse_opening =
 abbrev pub parse_event : Fields → Option Event
 parse_event [] = None
 parse_event (word ∷ fields) =
-    if bytes_eq word (codes "open") then parse_open fields
-    else if bytes_eq word (codes "close") then parse_close fields
-    else if bytes_eq word (codes "write") then parse_write fields
-    else if bytes_eq word (codes "read") then parse_read fields
-    else if bytes_eq word (codes "post") then parse_post fields
-    else if bytes_eq word (codes "signal") then parse_signal fields
-    else if bytes_eq word (codes "assert") then parse_assert fields
-    else if bytes_eq word (codes "absorb") then parse_absorb fields
+    if bytes_eq word (codes "write") then parse_write fields
     else if bytes_eq word (codes "store") then parse_store fields
-    else if bytes_eq word (codes "load") then parse_load fields
-    else if bytes_eq word (codes "tick") then parse_tick fields
     else if bytes_eq word (codes "take") then parse_take fields
+    else if bytes_eq word (codes "assert") then parse_assert fields
+    else if bytes_eq word (codes "tick") then parse_tick fields
+    else if bytes_eq word (codes "signal") then parse_signal fields
+    else if bytes_eq word (codes "post") then parse_post fields
+    else if bytes_eq word (codes "load") then parse_load fields
+    else if bytes_eq word (codes "read") then parse_read fields
+    else if bytes_eq word (codes "open") then parse_open fields
+    else if bytes_eq word (codes "close") then parse_close fields
+    else if bytes_eq word (codes "absorb") then parse_absorb fields
     else if bytes_eq word (codes "suspend") then parse_suspend fields
     else if bytes_eq word (codes "resume") then parse_resume fields
     else if bytes_eq word (codes "reset") then parse_reset fields

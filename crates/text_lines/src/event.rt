@@ -11,66 +11,48 @@ use board_terms::{Bytes8, Notices, PayloadBytes, PortShape};
 use synic_board::{Board, Event, Reply};
 use text_base::{Fields, is_word};
 
+/// The word of each event with its parser, the most frequent ones first.
+macro_rules! each_event {
+    ($one:ident) => {
+        $one!(b"write", write_of);
+        $one!(b"store", store_of);
+        $one!(b"take", take_of);
+        $one!(b"assert", assert_of);
+        $one!(b"tick", tick_of);
+        $one!(b"signal", signal_of);
+        $one!(b"post", post_of);
+        $one!(b"load", load_of);
+        $one!(b"read", read_of);
+        $one!(b"open", open_of);
+        $one!(b"close", close_of);
+        $one!(b"absorb", absorb_of);
+        $one!(b"suspend", suspend_of);
+        $one!(b"resume", resume_of);
+        $one!(b"reset", reset_of);
+        $one!(b"send", send_of);
+    };
+}
+
 /// Parses the event with this first word. All remaining fields must be used; `None` if they denote
 /// no event.
 pub fn event_of(word: &[u8], fields: &mut Fields<'_>) -> Option<Event>
     ensures { result ≡ parse_event (word.now ∷ fields.old) }
 {
-    if is_word(word, b"open") {
-        return open_of(fields);
+    macro_rules! one {
+        ($word:literal, $parse:ident) => {
+            if is_word(word, $word) {
+                return $parse(fields);
+            }
+        };
     }
-    if is_word(word, b"close") {
-        return close_of(fields);
-    }
-    if is_word(word, b"write") {
-        return write_of(fields);
-    }
-    if is_word(word, b"read") {
-        return read_of(fields);
-    }
-    if is_word(word, b"post") {
-        return post_of(fields);
-    }
-    if is_word(word, b"signal") {
-        return signal_of(fields);
-    }
-    if is_word(word, b"assert") {
-        return assert_of(fields);
-    }
-    if is_word(word, b"absorb") {
-        return absorb_of(fields);
-    }
-    if is_word(word, b"store") {
-        return store_of(fields);
-    }
-    if is_word(word, b"load") {
-        return load_of(fields);
-    }
-    if is_word(word, b"tick") {
-        return tick_of(fields);
-    }
-    if is_word(word, b"take") {
-        return take_of(fields);
-    }
-    if is_word(word, b"suspend") {
-        return suspend_of(fields);
-    }
-    if is_word(word, b"resume") {
-        return resume_of(fields);
-    }
-    if is_word(word, b"reset") {
-        return reset_of(fields);
-    }
-    if is_word(word, b"send") {
-        return send_of(fields);
-    }
+    each_event!(one);
     None
 }
 
 /// Performs the event that the fields denote on a board, and returns what `make` makes of its reply;
 /// `None` if they denote no event, and then the board is unchanged. Each kind of event is performed where
-/// it is parsed, so none is written to memory. The most frequent ones are first. This is compiled for each
-/// closure, so that it can be in line where the closure is.
+/// it is parsed, so none is written to memory. This is compiled for each closure, so that it can be in line
+/// where the closure is.
 pub fn perform_event<T, F: FnOnce(Reply) -> T>(
     fields: &Fields<'_>,
     board: &mut Board,
@@ -80,54 +62,29 @@ pub fn perform_event<T, F: FnOnce(Reply) -> T>(
     requires { F.IsAlwaysCallable make }
     ensures { MakesOfLine (F.post make) result (parse_event fields.now) board.old board.new notices.new }
 {
-    if let Some(mut rest) = fields.after(b"write") {
-        return perform(board, write_of(&mut rest), notices, make);
+    macro_rules! one {
+        (b"store", $parse:ident) => {
+            if let Some(mut rest) = fields.after(b"store") {
+                return perform_store(&mut rest, board, notices, make);
+            }
+        };
+        (b"post", $parse:ident) => {
+            if let Some(mut rest) = fields.after(b"post") {
+                return perform_post(&mut rest, board, notices, make);
+            }
+        };
+        (b"open", $parse:ident) => {
+            if let Some(rest) = fields.after(b"open") {
+                return perform_open(rest, board, notices, make);
+            }
+        };
+        ($word:literal, $parse:ident) => {
+            if let Some(mut rest) = fields.after($word) {
+                return perform(board, $parse(&mut rest), notices, make);
+            }
+        };
     }
-    if let Some(mut rest) = fields.after(b"store") {
-        return perform_store(&mut rest, board, notices, make);
-    }
-    if let Some(mut rest) = fields.after(b"take") {
-        return perform(board, take_of(&mut rest), notices, make);
-    }
-    if let Some(mut rest) = fields.after(b"assert") {
-        return perform(board, assert_of(&mut rest), notices, make);
-    }
-    if let Some(mut rest) = fields.after(b"tick") {
-        return perform(board, tick_of(&mut rest), notices, make);
-    }
-    if let Some(mut rest) = fields.after(b"signal") {
-        return perform(board, signal_of(&mut rest), notices, make);
-    }
-    if let Some(mut rest) = fields.after(b"post") {
-        return perform_post(&mut rest, board, notices, make);
-    }
-    if let Some(mut rest) = fields.after(b"load") {
-        return perform(board, load_of(&mut rest), notices, make);
-    }
-    if let Some(mut rest) = fields.after(b"read") {
-        return perform(board, read_of(&mut rest), notices, make);
-    }
-    if let Some(rest) = fields.after(b"open") {
-        return perform_open(rest, board, notices, make);
-    }
-    if let Some(mut rest) = fields.after(b"close") {
-        return perform(board, close_of(&mut rest), notices, make);
-    }
-    if let Some(mut rest) = fields.after(b"absorb") {
-        return perform(board, absorb_of(&mut rest), notices, make);
-    }
-    if let Some(mut rest) = fields.after(b"suspend") {
-        return perform(board, suspend_of(&mut rest), notices, make);
-    }
-    if let Some(mut rest) = fields.after(b"resume") {
-        return perform(board, resume_of(&mut rest), notices, make);
-    }
-    if let Some(mut rest) = fields.after(b"reset") {
-        return perform(board, reset_of(&mut rest), notices, make);
-    }
-    if let Some(mut rest) = fields.after(b"send") {
-        return perform(board, send_of(&mut rest), notices, make);
-    }
+    each_event!(one);
     None
 }
 

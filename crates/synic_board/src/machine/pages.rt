@@ -1,8 +1,6 @@
 // Guest loads and stores, and the messages that a store consumes.
-ghost use Rattle.std.specs.Prelude.{◌≡◌, ◌<◌, ◌≤◌, ◌+◌, [], length, IfSome, slice_get};
-ghost use Rattle.std.specs.Option.{option_copied};
-ghost use Rattle.gpa_space.specs.Space.{overlay_of, owner_of, IsNextOverlay};
-ghost use Rattle.synic_board.specs.State.{processors, space_of};
+ghost use Rattle.std.specs.Prelude.{◌≡◌, ◌<◌, ◌≤◌, ◌+◌, [], length, IfSome};
+ghost use Rattle.synic_board.specs.State.{processors};
 ghost use Rattle.synic_board.specs.inside.Effected.{preceded};
 ghost use Rattle.synic_board.specs.Stores.{stored_bytes, read_bytes, consumed, consumed_in};
 ghost use Rattle.synic_board.specs.inside.Steps.{IsOn};
@@ -12,7 +10,7 @@ ghost use Rattle.synic_board.specs.inside.Touches.{touched, OthersFree};
 
 use crate::event::Reply;
 use crate::machine::Machine;
-use board_terms::{Kind, Notice, Notices, Owner, Refusal, Sint, Vp, source_number};
+use board_terms::{Notice, Notices, Owner, Refusal, Sint, Vp, source_number};
 
 /// The number of bytes of a page.
 const PAGE_SIZE: u64 = 4096;
@@ -23,36 +21,6 @@ const SLOT_SIZE: usize = 256;
 const TYPE_SIZE: usize = 4;
 
 impl Machine {
-    /// An overlay's own page, visible or not.
-    pub(crate) fn own_page(&self, vp: Vp, kind: Kind) -> Option<&[u8]>
-        ensures value { option_copied result ≡ slice_get self.now.state.own (overlay_of vp kind) }
-        ensures len { IfSome result (λ page. length page.now ≡ 4096) }
-    {
-        self.space.own_page(vp, kind)
-    }
-
-    /// Which page a guest sees at a page number.
-    pub(crate) fn owner(&self, page: u64) -> Owner
-        ensures { result ≡ owner_of (space_of self.now.state) page }
-    {
-        self.space.owner(page)
-    }
-
-    /// The first page from a number on at which a guest sees an overlay, with its owner.
-    pub(crate) fn next_overlay(&self, from: u64) -> Option<(u64, Owner)>
-        ensures { IsNextOverlay (space_of self.now.state) from result }
-    {
-        self.space.next_overlay(from)
-    }
-
-    /// A guest page, without the overlays that obscure it.
-    pub(crate) fn guest_page(&self, number: u64) -> Option<&[u8]>
-        ensures value { option_copied result ≡ slice_get self.now.state.pages number }
-        ensures len { IfSome result (λ page. length page.now ≡ 4096) }
-    {
-        self.space.guest_page(number)
-    }
-
     /// Loads bytes from the page that the guest sees at the address.
     #[inline(always)]
     pub(crate) fn load(&self, address: u64, length: u8) -> Reply

@@ -1,22 +1,30 @@
-// Reading the parts of a machine, for a board that is saved or inspected.
+// What a draft asks of the machine that it restores.
 ghost use Rattle.std.specs.Prelude.{◌≡◌, ◌≢◌, ◌↔◌, ◌<◌, ◌-◌, IsTrue, None, slice_get, length};
-ghost use Rattle.message_queues.specs.Queues.{HasBuffer, port_used};
 ghost use Rattle.std.specs.Option.{option_copied};
-ghost use Rattle.synic_regs.specs.Regs.{stores, value_of};
 ghost use Rattle.event_ports.specs.Ports.{port_at};
-ghost use Rattle.message_queues.specs.Queues.{queue_of};
-ghost use Rattle.stimer_bank.specs.Bank.{timer_in, dues};
-ghost use Rattle.board_terms.specs.Dues.{least, later_than};
-ghost use Rattle.synic_board.specs.State.{processors, apic_of, regs_of, ports_of, bank_of, slot_of};
+ghost use Rattle.message_queues.specs.Queues.{HasBuffer, port_used, queue_of};
+ghost use Rattle.synic_board.specs.State.{processors, ports_of, slot_of};
 ghost use Rattle.synic_board.specs.Restoring.{HasNoTickets};
 
 use crate::machine::Machine;
-use board_terms::{Message, Moment, Sint, Ticket, TimerId, Vp, source_number};
+use board_terms::{Message, Moment, Sint, Ticket, Vp, source_number};
 use event_ports::Port;
-use lapic_core::Lapic;
-use synic_regs::Register;
 
 impl Machine {
+    /// The present time.
+    pub(crate) fn moment(&self) -> Moment
+        ensures { result ≡ self.now.state.moment }
+    {
+        self.moment
+    }
+
+    /// The ticket that the next accepted message gets.
+    pub(crate) fn next_ticket(&self) -> Ticket
+        ensures { result ≡ self.now.state.next_ticket }
+    {
+        self.next_ticket
+    }
+
     /// How many messages of a port are queued.
     pub(crate) fn port_used(&self, port: u8) -> u8
         ensures { result ≡ port_used self.now.state.queues port }
@@ -53,23 +61,6 @@ impl Machine {
         true
     }
 
-    /// The local APIC of a processor.
-    pub(crate) fn lapic(&self, vp: Vp) -> &Lapic
-        requires { vp < processors self.now.state }
-        ensures { result.now ≡ apic_of self.now.state vp }
-    {
-        &self.lapics[vp.number() as usize]
-    }
-
-    /// The contents of a register.
-    pub(crate) fn stored(&self, vp: Vp, register: Register) -> u64
-        requires on { vp < processors self.now.state }
-        requires stores { IsTrue (stores register) }
-        ensures { result ≡ value_of (regs_of self.now.state vp) register }
-    {
-        self.regs[vp.number() as usize].read(register)
-    }
-
     /// An open port.
     pub(crate) fn port(&self, number: u8) -> Option<Port>
         ensures { result ≡ port_at (ports_of self.now.state) number }
@@ -80,36 +71,6 @@ impl Machine {
         }
     }
 
-    /// The registers of a timer and its deadline, even while its processor is suspended.
-    pub(crate) fn timer(&self, timer: TimerId) -> (u64, u64, Option<u128>)
-        ensures { result ≡ (
-          (timer_in (bank_of self.now.state) timer).config,
-          (timer_in (bank_of self.now.state) timer).count,
-          (timer_in (bank_of self.now.state) timer).due,
-        ) }
-    {
-        (
-            self.timers.read_config(timer),
-            self.timers.read_count(timer),
-            self.timers.deadline(timer),
-        )
-    }
-
-    /// The earliest of the timers whose deadlines are later than a time, and its deadline.
-    pub(crate) fn earliest_after(&self, moment: Moment) -> Option<(u128, TimerId)>
-        ensures { result ≡ least (later_than moment (dues (bank_of self.now.state))) }
-    {
-        self.timers.earliest_after(moment)
-    }
-
-    /// The message at an index of a queue, counted from the front.
-    pub(crate) fn message(&self, vp: Vp, sint: Sint, index: u16) -> Option<&Message>
-        requires { vp < processors self.now.state }
-        ensures { option_copied result ≡ slice_get (queue_of self.now.state.queues vp sint) index }
-    {
-        self.queues.message(vp, sint, index)
-    }
-
     /// The last message of a queue.
     pub(crate) fn last_message(&self, vp: Vp, sint: Sint) -> Option<&Message>
         requires { vp < processors self.now.state }
@@ -118,13 +79,5 @@ impl Machine {
     {
         let count = self.queues.count(vp, sint);
         self.queues.message(vp, sint, count.saturating_sub(1))
-    }
-
-    /// The ticket in a slot.
-    pub(crate) fn slot_ticket(&self, vp: Vp, sint: Sint) -> Option<Ticket>
-        requires { vp < processors self.now.state }
-        ensures { result ≡ slot_of self.now.state vp sint }
-    {
-        self.slots[source_number(vp, sint)]
     }
 }

@@ -1,4 +1,4 @@
-use Rattle.std.proofs.Common.{◌≡◌, ◌<◌, ap, length, nat_eq, arith}
+use Rattle.std.proofs.Common.{◌≡◌, ap, length, nat_eq, arith}
 use Rattle.message_queues.specs.Queues.{processors_of, most_ports}
 use Rattle.synic_board.specs.State.{BoardModel}
 use Rattle.synic_board.proofs.keeping.Opened.{at-most}

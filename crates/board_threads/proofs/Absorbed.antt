@@ -1,5 +1,4 @@
 -- The raises of lines equal what a history absorbed plus the bits that are set, whoever swept.
--- `board_threads/proofs/Absorbs` has the same of actors whose calls are stored.
 use Rattle.std.proofs.Common.{◌≡◌, ℕ, ◌+◌, true, false, List, [], ◌∷◌, ◌++◌, length, All, map, refl, ◌∙◌, arith, reverse}
 use Rattle.std.specs.Prelude.{if◌then◌else◌}
 use Rattle.std.specs.List.{flat_map, sum_by}
