@@ -2,11 +2,7 @@
 //! crews in threads, and checks traces.
 #![tactic(auto)]
 
-mod judge;
-mod respond;
-mod stream;
-
-pub use stream::{ReplayEnd, replay, replay_on, save_script};
 pub use text_crew::{CrewRun, Gate, OpenGate, Worker, crew, crew_on};
 pub use text_lines::ScriptFault;
+pub use text_script::{ReplayEnd, replay, replay_on, save_script};
 pub use text_trace::{CheckEnd, check_trace};

@@ -1,7 +1,7 @@
 -- The results of the calls on scripts, traces, trace entries and images.
 use Rattle.std.specs.Prelude.{◌≡◌, ℕ, List, length, Option, Some, None, ◌⊎◌}
 use Rattle.text_lines.specs.declared.fault.ScriptFault.{ScriptFault}
-use Rattle.board_script.specs.Output.{fault_of, text}
+use Rattle.text_script.specs.Output.{fault_of, text}
 use Rattle.synic_board.specs.State.{State}
 use Rattle.text_image.specs.Image.{image}
 use Rattle.c_handles.specs.declared.any_board.AnyBoard.{AnyBoard}

@@ -8,11 +8,11 @@ ghost use Rattle.c_terms.specs.Entries.{entry_text};
 ghost use Rattle.c_calls.specs.Outcomes.{is_among};
 ghost use Rattle.c_calls.specs.Texts.{IsReplay, IsSaved, AreLines};
 
-use board_script::{ReplayEnd, replay};
 use c_handles::BoardHandle;
 use c_terms::{CEvent, CReply, EntryFault, lines_of, put_bytes};
 use std::alloc::Global;
 use text_image::put_image;
+use text_script::{ReplayEnd, replay};
 use text_trace::{CheckEnd, check_trace};
 
 /// The result of a call that writes a text, or reads an image. `kind` is 0 if no line is wrong, 10 if

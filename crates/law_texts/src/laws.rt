@@ -1,6 +1,6 @@
 //! Theorems about the definitions.
 ghost use Rattle.std.specs.Prelude.{◌≡◌, [], codes, replicate};
-ghost use Rattle.board_script.specs.Output.{text};
+ghost use Rattle.text_script.specs.Output.{text};
 
 /// The outputs of some small scripts.
 pub fn law_texts()

@@ -3,10 +3,6 @@
 //! writes the trace of a run; or reads a trace and writes whether it is legal.
 #![tactic(auto)]
 
-use board_script::{
-    CheckEnd, CrewRun, OpenGate, ReplayEnd, check_trace, crew, crew_on, replay, replay_on,
-    save_script,
-};
 use clap::error::ErrorKind;
 use clap::{Arg, ArgMatches, Command, Error};
 use std::alloc::{AllocError, Global};
@@ -17,7 +13,10 @@ use std::process::ExitCode;
 use std::sync::Wait;
 use std::thread::Threads;
 use synic_board::Board;
+use text_crew::{CrewRun, OpenGate, crew, crew_on};
 use text_restore::{RestoreEnd, restore};
+use text_script::{ReplayEnd, replay, replay_on, save_script};
+use text_trace::{CheckEnd, check_trace};
 
 /// The version of the program, which is that of `include/synicboard.h`.
 const VERSION: &str = "3.0.0";

@@ -2,8 +2,16 @@
 use crate::peers::{Refuses, gives, takes};
 use std::alloc::{AllocError, Global};
 use std::cell::Cell;
-use std::io;
-use text_base::{NextLine, Source, send};
+use std::io::{self, Read, Write};
+use text_base::{NextLine, Output, Source, send};
+
+/// The result for the next line, with an output that has nothing in its buffer.
+fn next_of<R: Read, W: Write>(source: &mut Source, reader: &mut R, writer: &mut W) -> NextLine {
+    let mut output = Output::new(writer);
+    let found = source.next_line(reader, &mut output);
+    let _ = output.end();
+    found
+}
 
 /// For each line of a reader that returns one byte per read: how it ends, the line, and the number
 /// of flushes. Each read has a flush before it, including the one that finds the end.
@@ -20,7 +28,7 @@ fn first_other(alloc: Global) -> Result<Option<usize>, AllocError> {
     let mut writer = takes(&held_back);
     let mut source = Source::open(alloc)?;
     for (place, (ends, line, flushes)) in LINES.iter().enumerate() {
-        let ended = source.next_line(&mut reader, &mut writer);
+        let ended = next_of(&mut source, &mut reader, &mut writer);
         if ended != *ends || source.line() != *line || writer.flushes != *flushes {
             return Ok(Some(place));
         }
@@ -42,8 +50,8 @@ fn flushed(alloc: Global, room: usize) -> Result<(NextLine, NextLine), AllocErro
     writer.refuses = Refuses::Flushes;
     writer.room = room;
     let mut source = Source::open(alloc)?;
-    let first = source.next_line(&mut reader, &mut writer);
-    Ok((first, source.next_line(&mut reader, &mut writer)))
+    let first = next_of(&mut source, &mut reader, &mut writer);
+    Ok((first, next_of(&mut source, &mut reader, &mut writer)))
 }
 
 /// The same if the reader fails at that read.
@@ -53,8 +61,8 @@ fn read(alloc: Global, fails_at: usize) -> Result<(NextLine, NextLine), AllocErr
     let mut writer = takes(&held_back);
     reader.fails_at = fails_at;
     let mut source = Source::open(alloc)?;
-    let first = source.next_line(&mut reader, &mut writer);
-    Ok((first, source.next_line(&mut reader, &mut writer)))
+    let first = next_of(&mut source, &mut reader, &mut writer);
+    Ok((first, next_of(&mut source, &mut reader, &mut writer)))
 }
 
 /// Whether exactly the call that reads or flushes at this place reports the failure.
@@ -87,7 +95,7 @@ fn line_of(alloc: Global, length: usize, feed: bool) -> Result<NextLine, AllocEr
         text.push(b'\n')?;
     }
     let mut reader = text.as_slice();
-    Ok(Source::open(alloc)?.next_line(&mut reader, &mut io::sink()))
+    Ok(next_of(&mut Source::open(alloc)?, &mut reader, &mut io::sink()))
 }
 
 #[test]

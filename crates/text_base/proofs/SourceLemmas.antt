@@ -6,16 +6,17 @@ use Rattle.std.proofs.lemmas.List.Edits.{take-paste, length-paste}
 use Rattle.std.specs.List.{copy_within}
 use borrow.Rule.Slice.PartMut.{put_mid}
 use Rattle.std.proofs.lemmas.List.{take_all, length-take, take-append-drop, take-take, drop-take, drop-drop, drop-append-le, length-drop, length-take-le}
-use Rattle.std.specs.Io.KnownBytes.{Consumes, Keeps}
+use Rattle.std.specs.Io.KnownBytes.{Consumes}
 use Rattle.text_base.specs.Buffered.{Buffered}
+use Rattle.text_base.specs.Outputs.{Written, HasSame}
 use Rattle.text_base.specs.Lines.{IsOneLine}
 use Rattle.text_base.specs.Streams.{Grows}
 
 -- more bytes were read, and appended to the buffered ones
-pub record SearchedSoFar (r0 r w0 w : Option (List ℕ)) (old now : Buffered) : Type 0 where
+pub record SearchedSoFar (r0 r : Option (List ℕ)) (output0 output : Written) (old now : Buffered) : Type 0 where
   pub came : List ℕ
   pub reads : Consumes r0 r came
-  pub writes : Keeps w0 w
+  pub same : HasSame output0 output
   pub grows : Grows old now came
 
 pub one-append : (xs ys : List ℕ) → IsOneLine xs → IsOneLine ys → IsOneLine (xs ++ ys)

@@ -3,6 +3,7 @@ use Rattle.std.specs.Prelude.{◌≡◌, ℕ, ◌+◌, ◌≤◌, List, [], ◌�
 use Rattle.std.specs.Io.KnownBytes.{Consumes}
 use Rattle.text_base.specs.Lines.{IsOneLine}
 use Rattle.text_base.specs.Buffered.{Buffered}
+use Rattle.text_base.specs.Outputs.{Written, IsWritten}
 use Rattle.text_base.specs.declared.source.NextLine.{NextLine}
 use Rattle.text_base.specs.declared.source.NextLine.TheVariants as ends
 
@@ -26,6 +27,11 @@ Finds ends.Last at_end old new came =
     × (length came + new.budget ≡ old.budget)
 Finds ends.ReadFailed at_end old new came = length came ≤ old.budget + 1
 Finds ends.FlushFailed at_end old new came = Grows old new came
+
+-- before a read that failed, all of the output was written
+abbrev pub IsWrittenFirst : NextLine → Written → Type 0
+IsWrittenFirst ends.ReadFailed output = IsWritten output
+IsWrittenFirst found output = Unit {0}
 
 -- at most that many bytes were read
 abbrev pub ReadsUpTo : ℕ → Option (List ℕ) → Option (List ℕ) → Type 0

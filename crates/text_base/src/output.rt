@@ -1,6 +1,6 @@
 // A sink that writes to a stream.
-ghost use Rattle.std.specs.Prelude.{◌≡◌, ◌++◌, ◌∷◌, ℕ, Option, List, [], not};
-ghost use Rattle.text_base.specs.Outputs.{Holds};
+ghost use Rattle.std.specs.Prelude.{◌≡◌, ◌++◌, ◌∷◌, ℕ, Option, List, [], IsTrue, not};
+ghost use Rattle.text_base.specs.Outputs.{Holds, HasSame, IsWritten};
 ghost use Rattle.text_base.specs.inside.Framing.{framed};
 
 use crate::sending::send;
@@ -34,6 +34,8 @@ impl<'a, W: Write> Model for Output<'a, W> {
       start = first_contents W.contents o.origin.values;
       now = W.contents o.writer.now;
       text = o.chunk.before.bytes ++ o.chunk.bytes.items;
+      held = o.chunk.bytes.items;
+      failed = o.failed;
     } };
 
     ghost invariant = { λ o. Holds (first_contents W.contents o.origin.values)
@@ -59,11 +61,26 @@ impl<'a, W: Write> Output<'a, W> {
         }
     }
 
-    /// Writes what is in the buffer, flushes, and returns the writer. `false` if a write or the flush
-    /// failed, or a write returned 0; then a prefix of the text was written.
-    pub fn finish(self) -> (&'a mut W, bool)
+    /// Writes what is in the buffer, and flushes. `false` if a write or the flush failed, or a write
+    /// returned 0.
+    #[inline(never)]
+    pub fn flush(&mut self) -> bool
+        ensures same { HasSame self.old self.new }
+        ensures written { IsTrue result → IsWritten self.new }
+    {
+        self.failed = empty(self.writer, &mut self.chunk, self.failed);
+        if self.failed {
+            return false;
+        }
+        self.writer.flush().is_ok()
+    }
+
+    /// Writes what is in the buffer, and returns the writer. `false` if a write failed or returned 0; then
+    /// a prefix of the text was written. An output of which all is written writes nothing.
+    pub fn end(self) -> (&'a mut W, bool)
         ensures name { result.0.ghost_name ≡ self.entry.name }
         ensures written { Holds self.entry.start (W.contents result.0.now) self.entry.text (not result.1) }
+        ensures whole { IsWritten self.entry → IsTrue result.1 }
     {
         let Output {
             writer,
@@ -71,11 +88,34 @@ impl<'a, W: Write> Output<'a, W> {
             mut chunk,
             failed,
         } = self;
-        if empty(writer, &mut chunk, failed) {
-            return (writer, false);
+        if chunk.bytes.is_empty() {
+            return (writer, !failed);
         }
-        let flushed = writer.flush().is_ok();
+        let failed = empty(writer, &mut chunk, failed);
+        (writer, !failed)
+    }
+
+    /// Writes what is in the buffer, flushes, and returns the writer. `false` if a write or the flush
+    /// failed, or a write returned 0; then a prefix of the text was written.
+    pub fn finish(self) -> (&'a mut W, bool)
+        ensures name { result.0.ghost_name ≡ self.entry.name }
+        ensures written { Holds self.entry.start (W.contents result.0.now) self.entry.text (not result.1) }
+    {
+        let (writer, sent) = self.end();
+        let flushed = sent && writer.flush().is_ok();
         (writer, flushed)
+    }
+
+    /// Puts bytes one by one. Out of line: mostly there is room for all of them.
+    #[inline(never)]
+    fn push_each(&mut self, bytes: &[u8])
+        ensures name { self.new.name ≡ self.old.name }
+        ensures start { self.new.start ≡ self.old.start }
+        ensures text { self.new.text ≡ self.old.text ++ bytes.now }
+    {
+        for byte in bytes {
+            self.push(*byte);
+        }
     }
 
     /// Puts a byte.
@@ -97,9 +137,10 @@ impl<'a, W: Write> Sink for Output<'a, W> {
 
     type Error = Infallible;
 
+    #[inline(always)]
     fn put(&mut self, bytes: &[u8]) -> Result<(), Infallible> {
-        for byte in bytes {
-            self.push(*byte);
+        if self.chunk.bytes.try_extend_from_slice(bytes).is_err() {
+            self.push_each(bytes);
         }
         Ok(())
     }

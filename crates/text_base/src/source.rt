@@ -1,12 +1,14 @@
 // The lines of a reader.
 ghost use Rattle.std.specs.Prelude.{◌≡◌, ℕ, ◌+◌, ◌≤◌, ◌<◌, List, [], MatchOption, IfOk, length, take, get_or, slice_range};
-ghost use Rattle.std.specs.Io.KnownBytes.{Consumes, Keeps, IsAtEnd};
+ghost use Rattle.std.specs.Io.KnownBytes.{Consumes, IsAtEnd};
 ghost use Rattle.text_base.specs.Lines.{IsOneLine};
 ghost use Rattle.text_base.specs.Buffered.{at_start};
-ghost use Rattle.text_base.specs.Streams.{Finds};
-ghost use Rattle.text_base.specs.inside.Filling.{Refills, Fills, Scans};
+ghost use Rattle.text_base.specs.Outputs.{HasSame};
+ghost use Rattle.text_base.specs.Streams.{Finds, IsWrittenFirst};
+ghost use Rattle.text_base.specs.inside.Filling.{Refills, Fills, FillsAfter, Scans};
 
 use crate::lanes::before_feed;
+use crate::output::Output;
 use memchr::memchr;
 use std::alloc::{AllocError, Global};
 use std::io::{Read, Write};
@@ -101,11 +103,16 @@ impl Source {
         &self.bytes[self.line_at..self.line_end]
     }
 
-    /// Finds the next line. Flushes the writer before each read: the peer may wait for the output
-    /// before it sends more input.
+    /// Finds the next line. Flushes the output before each read: the peer may wait for it before it sends
+    /// more input. A read that fails does so after the output was written.
     #[inline(always)]
-    pub fn next_line<R: Read, W: Write>(&mut self, reader: &mut R, writer: &mut W) -> NextLine
-        ensures written { Keeps (W.contents writer.old) (W.contents writer.new) }
+    pub fn next_line<R: Read, W: Write>(
+        &mut self,
+        reader: &mut R,
+        output: &mut Output<'_, W>,
+    ) -> NextLine
+        ensures same { HasSame output.old output.new }
+        ensures written { IsWrittenFirst result output.new }
         ensures found { (came : List ℕ) × Consumes (R.remaining reader.old) (R.remaining reader.new) came
             × Finds result (IsAtEnd (R.remaining reader.new)) self.old self.new came }
     {
@@ -115,7 +122,7 @@ impl Source {
                 Scan::Long => return NextLine::Long,
                 Scan::Short => {}
             }
-            match self.fill(reader, writer) {
+            match self.fill(reader, output) {
                 Fill::More => {}
                 Fill::End => {
                     self.take_rest();
@@ -159,13 +166,14 @@ impl Source {
 
     /// Reads once, after the buffered bytes, within the budget. Out of line: most lines are in the buffer.
     #[inline(never)]
-    fn fill<R: Read, W: Write>(&mut self, reader: &mut R, writer: &mut W) -> Fill
+    fn fill<R: Read, W: Write>(&mut self, reader: &mut R, output: &mut Output<'_, W>) -> Fill
         requires { length self.old.waiting ≤ 640 }
-        ensures written { Keeps (W.contents writer.old) (W.contents writer.new) }
+        ensures same { HasSame output.old output.new }
+        ensures written { FillsAfter result output.new }
         ensures filled { (came : List ℕ) × Consumes (R.remaining reader.old) (R.remaining reader.new) came
             × Fills result (IsAtEnd (R.remaining reader.new)) self.old self.new came }
     {
-        if writer.flush().is_err() {
+        if !output.flush() {
             return Fill::FlushFailed;
         }
         if self.budget == 0 {

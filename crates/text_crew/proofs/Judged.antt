@@ -1,13 +1,16 @@
 -- A valid script satisfies the preconditions of a crew.
-use Rattle.std.proofs.Common.{◌≡◌, ℕ, zero, suc, ◌≤◌, List, [], ◌∷◌, length, Vec, Global, refl, sym, ap, ◌∙◌, arith, Bool, false, ◌||◌, Option, None}
+use Rattle.std.proofs.Common.{◌≡◌, ℕ, zero, suc, List, [], ◌∷◌, length, Vec, Global, refl, sym, ap, ◌∙◌, arith, Bool, false, ◌||◌, Option, None, Some}
 use Rattle.std.specs.List.{list_any}
 use Rattle.std.proofs.lemmas.Bool.{or_from}
 use Rattle.std.proofs.lemmas.List.{length-replicate}
-use Rattle.synic_board.specs.State.{State, opened, processors}
+use Rattle.synic_board.specs.State.{State, IsWithinLimits, opened, processors}
 use Rattle.board_threads.specs.Crew.{lists}
-use Rattle.board_threads.specs.Judging.{AreScriptSizes, IsSized, is_bad_step, is_bad_script, is_bad_raise, is_bad_line, has_bad_step}
+use Rattle.board_threads.specs.Judging.{AreScriptSizes, is_bad_step, is_bad_script, is_bad_raise, is_bad_line, has_bad_step}
 use Rattle.board_threads.specs.Sweeps.{is_absorb}
+use Rattle.text_lines.specs.Sizes.{AreBoardSizes, opened_by}
+use Rattle.text_crew.specs.Running.{line_pages}
 use Rattle.text_crew.specs.inside.Good.{IsGoodOn}
+use Rattle.text_crew.specs.inside.Tracing.{Begins}
 use Rattle.text_crew.specs.inside.View.{crew_of}
 use Rattle.text_crew.specs.declared.held.CrewScript.{CrewScript}
 use Rattle.text_crew.proofs.Counting.{lengths}
@@ -29,26 +32,26 @@ script-sized board c g = record {
   entries = omega (arith, g.few_entries, lengths c.scripts.actors.items, c.setup.events.ok.0);
 }
 
--- at least one page
-pub some-page : (pages : ℕ) → (pages ≡ 0 → ⊥) → 1 ≤ pages
-some-page zero none = absurd (none refl)
-some-page (suc pages) none = omega arith
-
--- the number of processors on a sparse board
-pub one-sparse : (n ticket : ℕ) (s : State) → s ≡ opened n 0 ticket → n ≡ processors s
-one-sparse n ticket s is = sym (ap processors is ∙ length-replicate n _)
-
-pub sized : (c : CrewScript) → IsGoodOn None (crew_of c) → 1 ≤ c.setup.pages → IsSized c.setup c.scripts
-sized c g some = record {
-  board = record {
-    some_processor = g.board.some_processor;
-    processor_bound =
-        g.board.dense_bound (λ none. omega (arith, none, some));
-    some_page = some;
-    page_bound = g.board.page_bound;
-  };
-  sizes = script-sized None c g;
+-- the sizes in the board line of a board within the limits
+pub sizes-on : (n pages : ℕ) → IsWithinLimits n pages → AreBoardSizes n (line_pages pages)
+sizes-on n zero limits = record { some = limits.some_processor; bound = limits.processor_bound }
+sizes-on n (suc pages) limits = record {
+  some_processor = limits.some_processor;
+  processor_bound = limits.dense_bound (λ none. omega (arith, none));
+  some_page = omega arith;
+  page_bound = limits.page_bound;
 }
+
+-- the board that such a line opens
+pub opened-with : (n pages ticket : ℕ) → opened_by n (line_pages pages) ticket ≡ opened n pages ticket
+opened-with n zero ticket = refl
+opened-with n (suc pages) ticket = refl
+
+-- the processors of the board with which a crew begins
+pub begun-count : (board : Option State) (image : Option (List ℕ)) (c : CrewScript) (state : State)
+    → IsGoodOn board (crew_of c) → Begins board c.setup image state → c.setup.processors ≡ processors state
+begun-count None image c state g begins = sym (ap processors begins.1 ∙ length-replicate c.setup.processors _)
+begun-count (Some b) image c state g begins = g.board ∙ sym (ap processors begins.1)
 
 pub none-bad : (board : Option State) (c : CrewScript) → IsGoodOn board (crew_of c)
     → has_bad_step c.setup c.scripts ≡ false

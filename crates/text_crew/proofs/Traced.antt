@@ -1,21 +1,26 @@
 -- The trace of a history that was written to memory.
-use Rattle.std.proofs.Common.{◌≡◌, ℕ, zero, suc, ◌≤◌, List, [], sym, ap, subst, ◌∙◌, arith}
+use Rattle.std.proofs.Common.{◌≡◌, inl, inr, ℕ, zero, suc, ◌<◌, ◌^◌, List, [], refl, ap, subst, ◌∙◌}
 use Rattle.std.specs.Prelude.{Option, None, Some}
 use Rattle.std.specs.List.{All}
-use Rattle.synic_board.specs.State.{State, opened}
+use Rattle.synic_board.specs.State.{State, IsWithinLimits, opened}
 use Rattle.synic_board.specs.declared.history.Entry.{Entry}
 use Rattle.synic_board.specs.History.{leads_to}
 use Rattle.board_threads.specs.declared.settling.Ended.{Ended}
 use Rattle.text_trace.specs.declared.format.Format.{Format}
-use Rattle.text_trace.specs.declared.format.Format.TheVariants.{Two, Four}
+use Rattle.text_trace.specs.declared.format.Format.TheVariants.{Three}
+use Rattle.text_image.specs.Image.{image as image_of}
 use Rattle.text_trace.specs.Trace.{IsBeginning, IsEntry, format_for, board_text, trace, trace_text}
 use Rattle.text_trace.proofs.LawLemmas.{begins-for}
 use Rattle.text_crew.specs.Crew.{Crew}
-use Rattle.text_crew.specs.Running.{IsScriptHistory, IsCrewTrace, IsOpenedTrace, IsTraceOn, line_pages, opened_format}
-use Rattle.text_crew.specs.inside.Tracing.{IsTraced}
+use Rattle.text_crew.specs.Running.{IsScriptHistory, IsCrewTrace, IsTraceOn, line_pages, opened_format}
+use Rattle.text_crew.specs.inside.Good.{IsGoodOn}
+use Rattle.text_crew.specs.inside.Tracing.{Begins, IsTraced, begun_format, begun_text}
+use Rattle.text_crew.specs.inside.View.{crew_of}
 use Rattle.text_crew.specs.inside.Reporting.{Prepares}
+use Rattle.text_crew.specs.declared.held.CrewScript.{CrewScript}
 use Rattle.text_crew.specs.declared.outcome.Outcome.{Outcome}
 use Rattle.text_crew.specs.declared.outcome.Outcome.TheVariants as outcomes
+use Rattle.text_crew.proofs.Judged.{sizes-on}
 
 -- the printed history is a legal trace
 traced : (format : Format) (beginning : List ℕ) (start : State) (crew : Crew) (history : List Entry) (text : List ℕ)
@@ -54,24 +59,53 @@ prepared board format beginning start crew outcomes.Memory ended text is begins 
 prepared board format beginning start crew outcomes.Unsettled ended text is begins leads written on = tt
 prepared board format beginning start crew outcomes.NoThread ended text is begins leads written on = tt
 
--- The format and the beginning of the trace are those of the pages that the board holds.
-abbrev OpenedWith : ℕ → Crew → List ℕ → Type 0
-OpenedWith pages crew text =
-    IsCrewTrace (opened_format pages) (board_text crew.processors (line_pages pages) crew.first_ticket)
-    (opened crew.processors pages crew.first_ticket) crew text
+-- a board line of a board within the limits
+opening : (n pages ticket : ℕ) → IsWithinLimits n pages → ticket < 2 ^ 64
+    → IsBeginning (opened_format pages) (board_text n (line_pages pages) ticket) (opened n pages ticket)
+opening n zero ticket limits given = inl (record {
+  processors = n;
+  pages = None;
+  ticket = ticket;
+  form = refl;
+  sizes = sizes-on n zero limits;
+  given = given;
+  line = refl;
+  state = refl;
+})
+opening n (suc pages) ticket limits given = inl (record {
+  processors = n;
+  pages = Some (suc pages);
+  ticket = ticket;
+  form = refl;
+  sizes = sizes-on n (suc pages) limits;
+  given = given;
+  line = refl;
+  state = refl;
+})
 
-whole-with : (pages : ℕ) (crew : Crew) (text : List ℕ) → 1 ≤ pages →
-    IsCrewTrace Two (board_text crew.processors (Some pages) crew.first_ticket)
-    (opened crew.processors pages crew.first_ticket) crew text → OpenedWith pages crew text
-whole-with zero crew text some is = absurd (omega (arith, some))
-whole-with (suc pages) crew text some is = is
-
-pub opened-whole : (crew : Crew) (text : List ℕ) → 1 ≤ crew.pages →
-    IsCrewTrace Two (board_text crew.processors (Some crew.pages) crew.first_ticket)
-    (opened crew.processors crew.pages crew.first_ticket) crew text → IsOpenedTrace crew text
-opened-whole crew text some is = whole-with crew.pages crew text some is
-
-pub opened-sparse : (crew : Crew) (text : List ℕ) → crew.pages ≡ 0 →
-    IsCrewTrace Four (board_text crew.processors None crew.first_ticket)
-    (opened crew.processors 0 crew.first_ticket) crew text → IsOpenedTrace crew text
-opened-sparse crew text sparse is = subst (λ (pages : ℕ). OpenedWith pages crew text) (sym sparse) is
+-- what was written is the trace of a crew on the board with which it began
+pub begun : (board : Option State) (image : Option (List ℕ)) (s : CrewScript) (state : State) (outcome : Outcome)
+    (ended : Ended) (text : List ℕ) → IsGoodOn board (crew_of s) → Begins board s.setup image state
+    → IsScriptHistory (crew_of s) state ended.history.items
+    → ended.board.state ≡ leads_to state ended.history.items
+    → IsTraced (begun_format image s.setup.pages) (begun_text image s.setup) outcome ended [] text
+    → Prepares board outcome (crew_of s) text
+begun None image s state outcome ended text good begins is leads written =
+    let n = s.setup.processors in
+    let pages = s.setup.pages in
+    let ticket = s.setup.first_ticket in
+    let start = opened n pages ticket in
+    let line = board_text n (line_pages pages) ticket in
+    prepared None (opened_format pages) line start (crew_of s) outcome ended text
+    (subst (λ (t : State). IsScriptHistory (crew_of s) t ended.history.items) begins.1 is)
+    (opening n pages ticket good.board begins.2)
+    (subst (λ (t : State). ended.board.state ≡ leads_to t ended.history.items) begins.1 leads)
+    (subst (λ (i : Option (List ℕ)). IsTraced (begun_format i pages) (begun_text i s.setup) outcome ended [] text)
+    begins.0 written) (λ t. t)
+begun (Some b) image s state outcome ended text good begins is leads written =
+    prepared (Some b) Three (image_of b) b (crew_of s) outcome ended text
+    (subst (λ (t : State). IsScriptHistory (crew_of s) t ended.history.items) begins.1 is)
+    (inr (refl, begins.2))
+    (subst (λ (t : State). ended.board.state ≡ leads_to t ended.history.items) begins.1 leads)
+    (subst (λ (i : Option (List ℕ)).
+    IsTraced (begun_format i s.setup.pages) (begun_text i s.setup) outcome ended [] text) begins.0 written) (λ t. t)

@@ -19,7 +19,7 @@ use Rattle.text_trace.specs.declared.format.Format.TheVariants.{Two, Three, Four
 use Rattle.text_crew.specs.Crew.{Crew, new_crew, finished, entries_of}
 use Rattle.text_crew.specs.Reading.{parse_from}
 use Rattle.text_crew.specs.declared.running.CrewRun.{CrewRun}
-use Rattle.text_crew.specs.declared.running.CrewRun.TheVariants.{Done, Script, Unsettled, Memory, NoThread, Reading, Writing}
+use Rattle.text_crew.specs.declared.running.CrewRun.TheVariants.{Done, Script, Unsettled, NoThread, Reading, Writing}
 
 -- A history of a crew on a board in this state, under any schedule: a run of one thread that has the setup, the
 -- actors' scripts and the last absorbs

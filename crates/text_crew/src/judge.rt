@@ -6,6 +6,7 @@ ghost use Rattle.text_crew.specs.inside.View.{optional_crew};
 use crate::held::CrewScript;
 use crate::script::read_line;
 use std::alloc::Global;
+use text_base::Sink;
 use text_driver::{Judge, Taken};
 use text_lines::ScriptFault;
 
@@ -24,8 +25,7 @@ impl Judge for CrewJudge {
 
     ghost wrong = { λ judge line fault. parse_line (optional_crew judge.script) line ≡ Err fault };
 
-    fn take(&mut self, line: &[u8], out: &mut Vec<u8>) -> Taken<ScriptFault> {
-        let _ = out;
-        read_line(self.alloc, &mut self.script, line)
+    fn take<S: Sink>(&mut self, line: &[u8], _out: &mut S) -> Result<Taken<ScriptFault>, S::Error> {
+        Ok(read_line(self.alloc, &mut self.script, line))
     }
 }

@@ -1,22 +1,24 @@
 // Running the crew of a whole script, and its trace.
-ghost use Rattle.std.specs.Prelude.{◌≡◌, ◌≢◌, ◌<◌, ◌^◌, [], None, Some, IfOk};
-ghost use Rattle.synic_board.specs.State.{IsCount, opened};
+ghost use Rattle.std.specs.Prelude.{◌≡◌, ◌≢◌, ◌<◌, ◌^◌, [], None, Some, IfOk, IfSome};
+ghost use Rattle.synic_board.specs.State.{IsWithinLimits, opened};
 ghost use Rattle.text_image.specs.Image.{image};
 ghost use Rattle.text_restore.specs.Images.{IsImage};
 ghost use Rattle.text_trace.specs.Trace.{board_text};
-ghost use Rattle.text_crew.specs.inside.Good.{IsGoodOn};
+ghost use Rattle.text_crew.specs.Running.{line_pages};
+ghost use Rattle.text_crew.specs.inside.Good.{HasBoard, IsGoodOn};
 ghost use Rattle.text_crew.specs.inside.Reporting.{Prepares};
-ghost use Rattle.text_crew.specs.inside.Tracing.{IsTraced};
-ghost use Rattle.text_crew.specs.inside.View.{crew_of};
+ghost use Rattle.text_crew.specs.inside.Tracing.{Begins, IsTraced, begun_format, begun_text};
+ghost use Rattle.text_crew.specs.inside.View.{crew_of, image_in, state_in};
 
 use crate::held::CrewScript;
-use board_threads::{CrewFault, Ended, Gate, Setup, run_crew, run_crew_on};
+use board_threads::{CrewFault, Ended, Gate, Setup, run_crew_on};
 use law_images::laws::a_board_is_restored_from_its_image;
 use std::alloc::{AllocError, Global};
 use std::sync::Wait;
 use std::thread::Threads;
 use synic_board::{Board, OpenFault};
 use text_image::put_image;
+use text_lines::open_board;
 use text_trace::{Format, put_sparse_trace, put_trace, put_trace_from_image};
 
 /// The result of running a crew.
@@ -28,97 +30,75 @@ pub(crate) enum Outcome {
     NoThread,
 }
 
-/// Runs a crew on the board that its script opens, and appends its trace to `out`.
-pub(crate) fn run_opened<T: Threads + Wait + Sync, G: Gate + Sync>(
-    rt: &T,
-    alloc: Global,
-    script: &CrewScript,
-    gate: &G,
-    out: &mut Vec<u8>,
-) -> Outcome
-    requires empty { out.old.items ≡ [] }
-    requires good { IsGoodOn None (crew_of script.now) }
-    ensures { Prepares None result (crew_of script.now) out.new.items }
-{
-    if script.setup.pages == 0 {
-        run_sparse(rt, alloc, script, gate, out)
-    } else {
-        run_whole(rt, alloc, script, gate, out)
-    }
-}
-
-/// Runs a crew on a board that holds its guest pages.
-fn run_whole<T: Threads + Wait + Sync, G: Gate + Sync>(
-    rt: &T,
-    alloc: Global,
-    script: &CrewScript,
-    gate: &G,
-    out: &mut Vec<u8>,
-) -> Outcome
-    requires empty { out.old.items ≡ [] }
-    requires good { IsGoodOn None (crew_of script.now) }
-    requires pages { script.now.setup.pages ≢ 0 }
-    ensures { Prepares None result (crew_of script.now) out.new.items }
-{
-    match run_crew(rt, alloc, &script.setup, &script.scripts, gate) {
-        Ok(end) => put_opened(&script.setup, &end.ended, out),
-        Err(fault) => outcome_of(fault),
-    }
-}
-
-/// Runs a crew on a sparse board.
-fn run_sparse<T: Threads + Wait + Sync, G: Gate + Sync>(
-    rt: &T,
-    alloc: Global,
-    script: &CrewScript,
-    gate: &G,
-    out: &mut Vec<u8>,
-) -> Outcome
-    requires empty { out.old.items ≡ [] }
-    requires good { IsGoodOn None (crew_of script.now) }
-    requires sparse { script.now.setup.pages ≡ 0 }
-    ensures { Prepares None result (crew_of script.now) out.new.items }
-{
-    let Ok(board) = sparse_board(alloc, &script.setup) else {
-        return Outcome::Memory;
-    };
-    match run_crew_on(rt, alloc, board, &script.setup, &script.scripts, gate) {
-        Ok(end) => put_sparse(&script.setup, &end.ended, out),
-        Err(fault) => outcome_of(fault),
-    }
-}
-
-/// Opens a sparse board.
-fn sparse_board(alloc: Global, setup: &Setup) -> Result<Board, AllocError>
-    requires { IsCount setup.now.processors }
-    ensures { IfOk result (λ board. board.state ≡ opened setup.now.processors 0 setup.now.first_ticket) }
-{
-    match Board::open_sparse(alloc, setup.processors, setup.first_ticket) {
-        Ok(board) => Ok(board),
-        Err(OpenFault::BadSize) => unreachable!(),
-        Err(OpenFault::Memory) => Err(AllocError),
-    }
-}
-
-/// Runs a crew on a board that is given, and appends its trace to `out`.
-pub(crate) fn run_given<T: Threads + Wait + Sync, G: Gate + Sync>(
-    rt: &T,
-    alloc: Global,
+/// The board of a crew, and its image if it was given: then the trace begins with it.
+#[derive(Drop)]
+struct Begun {
     board: Board,
+    image: Option<Vec<u8>>,
+}
+
+/// Runs the crew of a script, on a board that is given or that the script opens, and appends its trace to
+/// `out`.
+pub(crate) fn prepare<T: Threads + Wait + Sync, G: Gate + Sync>(
+    rt: &T,
+    alloc: Global,
+    board: Option<Board>,
     script: &CrewScript,
     gate: &G,
     out: &mut Vec<u8>,
 ) -> Outcome
     requires empty { out.old.items ≡ [] }
-    requires good { IsGoodOn (Some board.state) (crew_of script.now) }
-    ensures { Prepares (Some board.state) result (crew_of script.now) out.new.items }
+    requires good { IsGoodOn (state_in board) (crew_of script.now) }
+    ensures { Prepares (state_in board) result (crew_of script.now) out.new.items }
 {
-    let Ok(image) = image_of(alloc, &board) else {
+    let Some(begun) = begin(alloc, board, &script.setup) else {
         return Outcome::Memory;
     };
+    let Begun { board, image } = begun;
     match run_crew_on(rt, alloc, board, &script.setup, &script.scripts, gate) {
-        Ok(end) => put_given(image.as_slice(), &end.ended, out),
+        Ok(end) => put_ended(&script.setup, &image, &end.ended, out),
         Err(fault) => outcome_of(fault),
+    }
+}
+
+/// The board that is given, with its image, or the one that a script opens. `None` if an allocation failed.
+fn begin(alloc: Global, board: Option<Board>, setup: &Setup) -> Option<Begun>
+    requires { HasBoard (state_in board) setup.now.processors setup.now.pages }
+    ensures { IfSome result (λ b. Begins (state_in board) setup.now (image_in b.image) b.board.state) }
+{
+    let Some(board) = board else {
+        let board = open_for(alloc, setup)?;
+        return Some(Begun { board, image: None });
+    };
+    let Ok(image) = image_of(alloc, &board) else {
+        return None;
+    };
+    let image = Some(image);
+    Some(Begun { board, image })
+}
+
+/// Opens the board of a script.
+fn open_for(alloc: Global, setup: &Setup) -> Option<Board>
+    requires { IsWithinLimits setup.now.processors setup.now.pages }
+    ensures opened { IfSome result
+        (λ board. board.state ≡ opened setup.now.processors setup.now.pages setup.now.first_ticket) }
+    ensures ticket { setup.now.first_ticket < 2 ^ 64 }
+{
+    let pages = line_pages(setup.pages);
+    match open_board(alloc, setup.processors, pages, setup.first_ticket) {
+        Ok(board) => Some(board),
+        Err(OpenFault::BadSize) => unreachable!(),
+        Err(OpenFault::Memory) => None,
+    }
+}
+
+/// The pages in the board line of a board that holds so many; a sparse board holds none.
+fn line_pages(pages: u8) -> Option<u8>
+    ensures { result ≡ line_pages pages }
+{
+    match pages {
+        0 => None,
+        _ => Some(pages),
     }
 }
 
@@ -133,13 +113,24 @@ fn image_of(alloc: Global, board: &Board) -> Result<Vec<u8>, AllocError>
     Ok(text)
 }
 
-/// Appends the trace of a crew that has ended, on a board that its script opened. It is separate
-/// from `run_whole`, so that one owner drops the crew.
+/// Appends the trace of a crew that has ended. It is separate from `prepare`, so that one owner drops the
+/// crew.
+fn put_ended(setup: &Setup, image: &Option<Vec<u8>>, ended: &Ended, out: &mut Vec<u8>) -> Outcome
+    ensures { IsTraced (begun_format (image_in image.now) setup.now.pages)
+        (begun_text (image_in image.now) setup.now) result ended.now out.old.items out.new.items }
+{
+    match image {
+        Some(image) => put_given(image.as_slice(), ended, out),
+        None if setup.pages == 0 => put_sparse(setup, ended, out),
+        None => put_opened(setup, ended, out),
+    }
+}
+
+/// Appends the trace of a crew that has ended, on a board that its script opened.
 fn put_opened(setup: &Setup, ended: &Ended, out: &mut Vec<u8>) -> Outcome
-    ensures traced { IsTraced Format.Two
+    ensures { IsTraced Format.Two
         (board_text setup.now.processors (Some setup.now.pages) setup.now.first_ticket) result ended.now out.old.items
         out.new.items }
-    ensures ticket { setup.now.first_ticket < 2 ^ 64 }
 {
     match put_trace(
         out,
@@ -156,9 +147,8 @@ fn put_opened(setup: &Setup, ended: &Ended, out: &mut Vec<u8>) -> Outcome
 
 /// Appends the trace of a crew that has ended, on a sparse board that its script opened.
 fn put_sparse(setup: &Setup, ended: &Ended, out: &mut Vec<u8>) -> Outcome
-    ensures traced { IsTraced Format.Four
+    ensures { IsTraced Format.Four
         (board_text setup.now.processors None setup.now.first_ticket) result ended.now out.old.items out.new.items }
-    ensures ticket { setup.now.first_ticket < 2 ^ 64 }
 {
     let (history, next) = (ended.history.as_slice(), ended.board.next_ticket());
     match put_sparse_trace(out, setup.processors, setup.first_ticket, history, next) {

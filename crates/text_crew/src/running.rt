@@ -1,15 +1,15 @@
 // Running a crew script from a reader, and writing the trace of its crew.
-ghost use Rattle.std.specs.Prelude.{◌≡◌, [], None, Some};
+ghost use Rattle.std.specs.Prelude.{None, Some, IfOk, IfErr};
 ghost use Rattle.text_base.specs.Streams.{ReadsUpTo};
 ghost use Rattle.text_crew.specs.Crew.{finished};
 ghost use Rattle.text_crew.specs.Running.{IsKnownOutput, Writes, most_read, StopsNear};
 ghost use Rattle.text_crew.specs.inside.Good.{IsGoodOn};
-ghost use Rattle.text_crew.specs.inside.Reporting.{Refusal, Report, Prepares};
+ghost use Rattle.text_crew.specs.inside.Reporting.{IsWhole, Refusal, Report, most_taken};
 ghost use Rattle.text_crew.specs.inside.View.{crew_of, state_in};
 
 use crate::held::CrewScript;
 use crate::judge::CrewJudge;
-use crate::outcome::{Outcome, run_given, run_opened};
+use crate::outcome::{Outcome, prepare};
 use board_threads::Gate;
 use std::alloc::Global;
 use std::io::{Read, Write};
@@ -92,22 +92,42 @@ fn run_script<T: Threads + Wait + Sync, R: Read, W: Write, G: Gate + Sync>(
     ensures limit { ReadsUpTo (most_read result) (R.remaining reader.old) (R.remaining reader.new) }
     ensures near { StopsNear result (R.remaining reader.old) (R.remaining reader.new) }
 {
+    match read_script(alloc, &board, reader, writer) {
+        Ok(script) => run(rt, alloc, board, script, writer, gate),
+        Err(end) => end,
+    }
+}
+
+/// Reads a whole crew script, for this board or for one that its first line opens. Returns how the run ends if
+/// there is no such script, and then its fault's line was written.
+fn read_script<R: Read, W: Write>(
+    alloc: Global,
+    board: &Option<Board>,
+    reader: &mut R,
+    writer: &mut W,
+) -> Result<CrewScript, CrewRun>
+    ensures whole { IfOk result (λ script. IsWhole (state_in board.now) (crew_of script) (R.remaining reader.old)
+        (W.contents writer.old) (W.contents writer.new)) }
+    ensures text { IfErr result (λ end. Writes (IsKnownOutput (state_in board.now) (R.remaining reader.old)) end
+        (W.contents writer.old) (W.contents writer.new)) }
+    ensures limit { ReadsUpTo (most_taken result) (R.remaining reader.old) (R.remaining reader.new) }
+    ensures near { IfErr result (λ end. StopsNear end (R.remaining reader.old) (R.remaining reader.new)) }
+{
     let mut judge = CrewJudge {
         alloc,
-        script: CrewScript::on(alloc, &board),
+        script: CrewScript::on(alloc, board),
     };
-    let mut out = Vec::new(alloc);
-    match drive(alloc, reader, writer, &mut judge, &mut out) {
+    match drive(alloc, reader, writer, &mut judge) {
         End::Last { line } => match judge.script {
-            Some(script) => run(rt, alloc, board, script, writer, gate),
-            None => refuse(alloc, writer, line, ScriptFault::First),
+            Some(script) => Ok(script),
+            None => Err(refuse(alloc, writer, line, ScriptFault::First)),
         },
-        End::Wrong { line, fault } => refuse(alloc, writer, line, fault),
-        End::Long { line } => refuse(alloc, writer, line, ScriptFault::Long),
-        End::Cut { line } => refuse(alloc, writer, line, ScriptFault::Cut),
-        End::Memory => CrewRun::Memory,
-        End::Reading => CrewRun::Reading,
-        End::Writing => CrewRun::Writing,
+        End::Wrong { line, fault } => Err(refuse(alloc, writer, line, fault)),
+        End::Long { line } => Err(refuse(alloc, writer, line, ScriptFault::Long)),
+        End::Cut { line } => Err(refuse(alloc, writer, line, ScriptFault::Cut)),
+        End::Memory => Err(CrewRun::Memory),
+        End::Reading => Err(CrewRun::Reading),
+        End::Writing => Err(CrewRun::Writing),
     }
 }
 
@@ -139,8 +159,11 @@ fn run<T: Threads + Wait + Sync, W: Write, G: Gate + Sync>(
     ensures { Writes (Report (state_in board) (finished (crew_of script))) result (W.contents writer.old)
         (W.contents writer.new) }
 {
+    if script.close().is_err() {
+        return CrewRun::Memory;
+    }
     let mut out = Vec::new(alloc);
-    match prepare(rt, alloc, board, &mut script, gate, &mut out) {
+    match prepare(rt, alloc, board, &script, gate, &mut out) {
         Outcome::Memory => CrewRun::Memory,
         Outcome::NoThread => CrewRun::NoThread,
         Outcome::Unsettled => {
@@ -155,27 +178,5 @@ fn run<T: Threads + Wait + Sync, W: Write, G: Gate + Sync>(
             }
             CrewRun::Done
         }
-    }
-}
-
-/// Runs the crew of a script, and appends its trace to `out`.
-fn prepare<T: Threads + Wait + Sync, G: Gate + Sync>(
-    rt: &T,
-    alloc: Global,
-    board: Option<Board>,
-    script: &mut CrewScript,
-    gate: &G,
-    out: &mut Vec<u8>,
-) -> Outcome
-    requires empty { out.old.items ≡ [] }
-    requires good { IsGoodOn (state_in board) (finished (crew_of script.old)) }
-    ensures { Prepares (state_in board) result (finished (crew_of script.old)) out.new.items }
-{
-    if script.close().is_err() {
-        return Outcome::Memory;
-    }
-    match board {
-        None => run_opened(rt, alloc, script, gate, out),
-        Some(board) => run_given(rt, alloc, board, script, gate, out),
     }
 }

@@ -1,2 +1,4 @@
 pub mod Budgets
+pub mod Written
 pub mod Progress
+pub mod Silent

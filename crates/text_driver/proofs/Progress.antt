@@ -5,9 +5,11 @@ use Rattle.std.specs.Io.KnownBytes.{Consumes, Appends, IsAtEnd}
 use Rattle.std.proofs.KnownBytes.{Consumes-nil, Consumes-trans, Consumes-whole, Appends-nil}
 use Rattle.text_base.specs.Buffered.{Buffered, at_start}
 use Rattle.text_base.specs.Lines.{IsOneLine, lines_of, rest_of, joined}
+use Rattle.text_base.specs.Outputs.{Written}
 use Rattle.text_base.specs.Streams.{ReadsUpTo}
 use Rattle.text_base.proofs.LineLemmas.{lines_of-line, lines_of-more, rest_of-more, lines_of-rest, rest_of-rest, before_lines, before_rest, AreLines, lines-append, joined-snoc, lines_of-joined, rest_of-joined}
 use Rattle.text_driver.proofs.Budgets.{less_left, on-input}
+use Rattle.text_driver.proofs.Written.{HasPut, put-nothing}
 use Rattle.text_driver.specs.Judging.{AreGoodLines}
 use Rattle.text_driver.specs.Driving.{next_of, place, Ends, Stops, Sends, Drives, ReadsNear}
 use Rattle.text_driver.specs.declared.driving.End.{End}
@@ -50,28 +52,33 @@ pub record Progress {J : Type 0} (good : J → List ℕ → List ℕ → J → T
   pub follows : AreGoodLines good old lines answers now
   pub spent : length (joined lines) + (length source.waiting + source.budget) ≡ 1073741824
 
--- and the answers were sent
+-- and the answers were put
 pub record Standing {J : Type 0} (ready : ℕ → J → Type 0) (good : J → List ℕ → List ℕ → J → Type 0)
-    (r0 r w0 w : Option (List ℕ)) (source : Buffered) (old now : J) (number : ℕ) : Type 0 where
+    (r0 r : Option (List ℕ)) (output0 output : Written) (source : Buffered) (old now : J) (number : ℕ)
+    : Type 0 where
   pub answers : List ℕ
   pub progress : Progress good r0 r source old now number answers
-  pub writes : Appends w0 w answers
+  pub puts : HasPut output0 output answers
   pub can : ready number now
 
+nothing-read : {J : Type 0} {good : J → List ℕ → List ℕ → J → Type 0} (r : Option (List ℕ)) (judge : J)
+    → Progress good r r at_start judge judge 0 []
+nothing-read r judge = record {
+  lines = [];
+  each = tt;
+  counted = refl;
+  reads = Consumes-nil r;
+  follows = (refl, refl);
+  spent = refl;
+}
+
 pub standing-start : {J : Type 0} (ready : ℕ → J → Type 0) (good : J → List ℕ → List ℕ → J → Type 0)
-    (r w : Option (List ℕ)) (judge : J) → ready 0 judge →
-    Standing ready good r r w w at_start judge judge 0
-standing-start ready good r w judge can = record {
+    (r : Option (List ℕ)) (output : Written) (judge : J) → ready 0 judge →
+    Standing ready good r r output output at_start judge judge 0
+standing-start ready good r output judge can = record {
   answers = [];
-  progress = record {
-    lines = [];
-    each = tt;
-    counted = refl;
-    reads = Consumes-nil r;
-    follows = (refl, refl);
-    spent = refl;
-  };
-  writes = Appends-nil w;
+  progress = nothing-read r judge;
+  puts = put-nothing output;
   can = can;
 }
 
@@ -175,6 +182,12 @@ drives-on {good = good} {wrong = wrong} {end = end} {r0 = r0} {r1 = r1} {source 
       read = subst (λ (x : List ℕ). Stops good wrong end old new answers x) (append-nil taken) (each []);
       whole = on-input r0 r1 taken (Stops good wrong end old new answers) all each;
     }
+
+-- No memory for a line.
+pub nothing-taken : {J F : Type 0} {good : J → List ℕ → List ℕ → J → Type 0} {wrong : J → List ℕ → F → Type 0}
+    (judge : J) (r w : Option (List ℕ)) → Drives good wrong ends.Memory judge judge r r w w
+nothing-taken judge r w =
+    drives-on {number = 0} [] [] (nothing-read r judge) (Consumes-nil r) (Appends-nil w) refl (λ ys. tt)
 
 -- The input is at its end.
 pub drives-end : {J F : Type 0} {good : J → List ℕ → List ℕ → J → Type 0} {wrong : J → List ℕ → F →

@@ -2,6 +2,7 @@
 use Rattle.std.specs.Prelude.{◌≡◌, ℕ, ◌+◌, ◌≤◌, ◌<◌, List, [], ◌∷◌, ◌++◌, length, take, Option, IfSome}
 use Rattle.std.specs.Io.KnownBytes.{Consumes, Appends}
 use Rattle.text_base.specs.Lines.{lines_of, rest_of, joined}
+use Rattle.text_base.specs.Outputs.{Written, IsWritten}
 use Rattle.text_driver.specs.Judging.{AreGoodLines}
 use Rattle.text_driver.specs.declared.driving.End.{End}
 use Rattle.text_driver.specs.declared.driving.End.TheVariants as ends
@@ -64,6 +65,11 @@ pub record Drives {J F : Type 0} (good : J → List ℕ → List ℕ → J → T
   pub sends : Sends end answers sent
   pub read : Stops good wrong end old new answers taken
   pub whole : IfSome r0 (Stops good wrong end old new answers)
+
+-- before a read that failed, all answers were written
+abbrev pub IsWrittenFirst : {F : Type 0} → End F → Written → Type 0
+IsWrittenFirst ends.Reading output = IsWritten output
+IsWrittenFirst end output = Unit {0}
 
 -- the greatest number of bytes that are read
 abbrev pub most_of : {F : Type 0} → End F → ℕ

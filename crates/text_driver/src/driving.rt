@@ -1,11 +1,13 @@
 // Driving a judge over the lines of a reader.
-ghost use Rattle.text_driver.specs.Driving.{Drives, most_of, StopsNear};
+ghost use Rattle.std.specs.Prelude.{◌≡◌, Some};
+ghost use Rattle.text_base.specs.Buffered.{at_start};
 ghost use Rattle.text_base.specs.Streams.{ReadsUpTo};
+ghost use Rattle.text_driver.specs.Driving.{Drives, IsWrittenFirst, most_of, StopsNear};
 
 use crate::judge::{Judge, Taken};
 use std::alloc::Global;
 use std::io::{Read, Write};
-use text_base::{NextLine, Source, send};
+use text_base::{NextLine, Output, Source};
 
 /// How a drive ends. Lines are counted from 1.
 #[derive(Clone, Copy)]
@@ -27,16 +29,15 @@ pub enum End<F> {
     Writing,
 }
 
-/// Has the judge take each line of the reader in turn, up to the first that is not good. For a good
-/// line, what the judge puts in `out` is sent before the next line is read. The writer is flushed
-/// before each read, and not at the end. `out` holds some bytes afterwards. The memory that this
-/// allocates does not depend on the length of the input.
+/// Has the judge take each line of the reader in turn, up to the first that is not good, and writes the
+/// answers to the good lines: at the latest before the next read and at the end, whatever the end is. The
+/// writer is flushed before each read, and not at the end. The memory that this allocates does not depend on
+/// the length of the input.
 pub fn drive<R: Read, W: Write, J: Judge>(
     alloc: Global,
     reader: &mut R,
     writer: &mut W,
     judge: &mut J,
-    out: &mut Vec<u8>,
 ) -> End<J::Fault>
     requires { J.ready 0 judge.old }
     ensures lines { Drives J.good J.wrong result judge.old judge.new
@@ -46,26 +47,77 @@ pub fn drive<R: Read, W: Write, J: Judge>(
     ensures limit { ReadsUpTo (most_of result) (R.remaining reader.old) (R.remaining reader.new) }
     ensures near { StopsNear result (R.remaining reader.old) (R.remaining reader.new) }
 {
-    let Ok(mut source) = Source::open(alloc) else {
+    let Ok(source) = Source::open(alloc) else {
         return End::Memory;
     };
+    let mut end = End::Memory;
+    let _through = drive_through(source, reader, writer, judge, &mut end);
+    end
+}
+
+/// A writer to which all that was put was sent, as far as it could be.
+#[derive(Drop)]
+struct Through<'a, W: Write> {
+    writer: &'a mut W,
+}
+
+/// Drives a judge over the lines of a source, and says at `end` how.
+fn drive_through<'a, R: Read, W: Write, J: Judge>(
+    source: Source,
+    reader: &mut R,
+    writer: &'a mut W,
+    judge: &mut J,
+    end: &mut End<J::Fault>,
+) -> Through<'a, W>
+    requires start { source ≡ at_start }
+    requires ready { J.ready 0 judge.old }
+    ensures name { result.writer.ghost_name ≡ writer.entry.ghost_name }
+    ensures lines { Drives J.good J.wrong end.new judge.old judge.new (R.remaining reader.old)
+        (R.remaining reader.new) (W.contents writer.entry.now) (W.contents result.writer.now) }
+    ensures limit { ReadsUpTo (most_of end.new) (R.remaining reader.old) (R.remaining reader.new) }
+    ensures near { StopsNear end.new (R.remaining reader.old) (R.remaining reader.new) }
+{
+    let mut output = Output::new(writer);
+    *end = take_lines(source, reader, &mut output, judge);
+    let (writer, sent) = output.end();
+    if !sent {
+        *end = End::Writing;
+        return Through { writer };
+    }
+    Through { writer }
+}
+
+/// Has the judge take the lines of a source. If a read failed, all answers are written before it.
+#[inline(always)]
+fn take_lines<R: Read, W: Write, J: Judge>(
+    mut source: Source,
+    reader: &mut R,
+    output: &mut Output<'_, W>,
+    judge: &mut J,
+) -> End<J::Fault>
+    requires start { source ≡ at_start }
+    requires ready { J.ready 0 judge.old }
+    ensures name { output.new.name ≡ output.old.name }
+    ensures start { output.new.start ≡ output.old.start }
+    ensures lines { Drives J.good J.wrong result judge.old judge.new
+        (R.remaining reader.old) (R.remaining reader.new) (Some output.old.text) (Some output.new.text) }
+    ensures written { IsWrittenFirst result output.new }
+    ensures limit { ReadsUpTo (most_of result) (R.remaining reader.old) (R.remaining reader.new) }
+    ensures near { StopsNear result (R.remaining reader.old) (R.remaining reader.new) }
+{
     let mut line: u64 = 0;
     loop {
-        let found = source.next_line(reader, writer);
+        let found = source.next_line(reader, output);
         line += 1;
         match found {
-            NextLine::Whole => {
-                out.clear();
-                match judge.take(source.line(), out) {
-                    Taken::Good => {
-                        if !send(writer, out.as_slice()) {
-                            return End::Writing;
-                        }
-                    }
+            NextLine::Whole => match judge.take(source.line(), output) {
+                Ok(taken) => match taken {
+                    Taken::Good => {}
                     Taken::Wrong(fault) => return End::Wrong { line, fault },
                     Taken::Memory => return End::Memory,
-                }
-            }
+                },
+                Err(never) => match never {},
+            },
             NextLine::Long => return End::Long { line },
             NextLine::Last => {
                 if source.line().is_empty() {

@@ -13,7 +13,6 @@ use board_terms::Vector;
 pub use event::{put_decimal_field, put_event, put_hex_field};
 pub use notice::put_notices;
 pub use reply::put_reply;
-use std::alloc::AllocError;
 pub use summary::put_summary;
 use text_base::{Sink, put_byte, put_bytes};
 
@@ -38,8 +37,8 @@ pub fn put_data<S: Sink>(out: &mut S, bytes: &[u8]) -> Result<(), S::Error>
 
 /// Appends a vector, or `none`.
 #[inline(always)]
-fn put_vector(out: &mut Vec<u8>, vector: Option<Vector>) -> Result<(), AllocError>
-    ensures { OnOk result (out.new.items ≡ out.old.items ++ vector_or_none vector) }
+fn put_vector<S: Sink>(out: &mut S, vector: Option<Vector>) -> Result<(), S::Error>
+    ensures { OnOk result (S.text out.new ≡ S.text out.old ++ vector_or_none vector) }
 {
     match vector {
         Some(vector) => put_byte(out, vector.number()),

@@ -3,6 +3,7 @@ ghost use Rattle.text_restore.specs.Taking.{stage_of, IsGood, IsWrong};
 
 use crate::stage::{Stage, take_line};
 use std::alloc::Global;
+use text_base::Sink;
 use text_driver::{Judge, Taken};
 
 /// Reads the lines of an image into a board.
@@ -19,8 +20,7 @@ impl Judge for ImageJudge {
 
     ghost wrong = { λ judge line fault. IsWrong (stage_of judge.stage) line fault };
 
-    fn take(&mut self, line: &[u8], out: &mut Vec<u8>) -> Taken<()> {
-        let _ = out;
-        take_line(self.alloc, &mut self.stage, line)
+    fn take<S: Sink>(&mut self, line: &[u8], _out: &mut S) -> Result<Taken<()>, S::Error> {
+        Ok(take_line(self.alloc, &mut self.stage, line))
     }
 }

@@ -38,8 +38,7 @@ pub fn restore<R: Read>(alloc: Global, reader: &mut R) -> RestoreEnd
         alloc,
         stage: Stage::Untitled,
     };
-    let mut out = Vec::new(alloc);
-    let end = drive(alloc, reader, &mut io::sink(), &mut judge, &mut out);
+    let end = drive(alloc, reader, &mut io::sink(), &mut judge);
     conclude(end, judge.stage)
 }
 

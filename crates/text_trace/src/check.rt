@@ -51,28 +51,22 @@ pub fn check_trace<R: Read, W: Write>(alloc: Global, reader: &mut R, writer: &mu
         notices,
         text: Vec::new(alloc),
     };
-    let mut out = Vec::new(alloc);
-    let end = drive(alloc, reader, writer, &mut judge, &mut out);
-    conclude(writer, &mut out, end, entries_of(&judge.stage))
+    let end = drive(alloc, reader, writer, &mut judge);
+    conclude(alloc, writer, end, entries_of(&judge.stage))
 }
 
 /// Writes the verdict when reading ends, given the number of entries if the trace is complete. It
 /// is separate from `check_trace`, so that one owner drops everything.
-fn conclude<W: Write>(
-    writer: &mut W,
-    out: &mut Vec<u8>,
-    end: End<()>,
-    entries: Option<u64>,
-) -> CheckEnd
+fn conclude<W: Write>(alloc: Global, writer: &mut W, end: End<()>, entries: Option<u64>) -> CheckEnd
     ensures { Concludes (conclusion end entries) result (W.contents writer.old) (W.contents writer.new) }
 {
     match end {
         End::Last { line } => match entries {
-            Some(entries) => say(writer, out, Verdict::Legal(entries)),
-            None => say(writer, out, Verdict::Refused(line)),
+            Some(entries) => say(alloc, writer, Verdict::Legal(entries)),
+            None => say(alloc, writer, Verdict::Refused(line)),
         },
         End::Wrong { line, .. } | End::Long { line } | End::Cut { line } => {
-            say(writer, out, Verdict::Refused(line))
+            say(alloc, writer, Verdict::Refused(line))
         }
         End::Memory => CheckEnd::Memory,
         End::Reading => CheckEnd::Reading,
@@ -81,11 +75,11 @@ fn conclude<W: Write>(
 }
 
 /// Writes the verdict's line, and flushes.
-fn say<W: Write>(writer: &mut W, out: &mut Vec<u8>, verdict: Verdict) -> CheckEnd
+fn say<W: Write>(alloc: Global, writer: &mut W, verdict: Verdict) -> CheckEnd
     ensures { WritesVerdict result verdict (W.contents writer.old) (W.contents writer.new) }
 {
-    out.clear();
-    if put_verdict(out, verdict).is_err() {
+    let mut out = Vec::new(alloc);
+    if put_verdict(&mut out, verdict).is_err() {
         return CheckEnd::Memory;
     }
     if !close(writer, out.as_slice()) {

@@ -4,6 +4,7 @@ ghost use Rattle.text_trace.specs.inside.Stages.{stage_of, IsGood, IsWrong, HasL
 use crate::stage::{Stage, take_line};
 use board_terms::Notices;
 use std::alloc::Global;
+use text_base::Sink;
 use text_driver::{Judge, Taken};
 
 /// Validates the lines of a trace: performs the events on a board of its own, and compares the
@@ -25,13 +26,13 @@ impl Judge for TraceJudge {
 
     ghost wrong = { λ judge line fault. IsWrong (stage_of judge.stage) line fault };
 
-    fn take(&mut self, line: &[u8], _out: &mut Vec<u8>) -> Taken<()> {
-        take_line(
+    fn take<S: Sink>(&mut self, line: &[u8], _out: &mut S) -> Result<Taken<()>, S::Error> {
+        Ok(take_line(
             self.alloc,
             &mut self.stage,
             line,
             &mut self.notices,
             &mut self.text,
-        )
+        ))
     }
 }

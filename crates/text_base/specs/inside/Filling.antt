@@ -6,6 +6,7 @@ use Rattle.text_base.specs.declared.source.Fill.{Fill}
 use Rattle.text_base.specs.declared.source.Fill.TheVariants as fills
 use Rattle.text_base.specs.declared.source.Scan.{Scan}
 use Rattle.text_base.specs.declared.source.Scan.TheVariants as scans
+use Rattle.text_base.specs.Outputs.{Written, IsWritten}
 use Rattle.text_base.specs.Streams.{Grows}
 
 -- the bytes read follow those at the front
@@ -20,6 +21,11 @@ Fills fills.More at_end old new came = Grows old new came × (0 < length came)
 Fills fills.End at_end old new came = Grows old new came × (came ≡ []) × at_end
 Fills fills.ReadFailed at_end old new came = (new.waiting ≡ old.waiting) × (length came ≤ old.budget + 1)
 Fills fills.FlushFailed at_end old new came = (came ≡ []) × Grows old new came
+
+-- before a read that failed, all of the output was written
+abbrev pub FillsAfter : Fill → Written → Type 0
+FillsAfter fills.ReadFailed output = IsWritten output
+FillsAfter fill output = Unit {0}
 
 -- the line among the buffered bytes
 abbrev pub Scans : Scan → Buffered → Buffered → Type 0

@@ -1,9 +1,15 @@
 -- The trace of a crew that has ended.
-use Rattle.std.specs.Prelude.{◌≡◌, ℕ, List, ◌++◌}
+use Rattle.std.specs.Prelude.{◌≡◌, ℕ, ◌<◌, ◌^◌, List, ◌++◌, Option, None, Some}
 use Rattle.std.specs.List.{All}
+use Rattle.synic_board.specs.State.{State, opened}
+use Rattle.board_threads.specs.declared.script.Setup.{Setup}
 use Rattle.board_threads.specs.declared.settling.Ended.{Ended}
-use Rattle.text_trace.specs.Trace.{IsEntry, format_for, trace_text}
+use Rattle.text_image.specs.Image.{image as image_of}
+use Rattle.text_restore.specs.Images.{IsImage}
+use Rattle.text_trace.specs.Trace.{IsEntry, board_text, format_for, trace_text}
 use Rattle.text_trace.specs.declared.format.Format.{Format}
+use Rattle.text_trace.specs.declared.format.Format.TheVariants.{Three}
+use Rattle.text_crew.specs.Running.{line_pages, opened_format}
 use Rattle.text_crew.specs.declared.outcome.Outcome.{Outcome}
 use Rattle.text_crew.specs.declared.outcome.Outcome.TheVariants as outcomes
 
@@ -15,3 +21,18 @@ IsTraced format beginning outcomes.Done ended old new =
     (format_for format ended.history.items) beginning ended.history.items ended.board.state.next_ticket)
 IsTraced format beginning outcomes.Memory ended old new = Unit {0}
 IsTraced format beginning outcome ended old new = ⊥
+
+-- the board of a crew, and its image if it was given
+abbrev pub Begins : Option State → Setup → Option (List ℕ) → State → Type 0
+Begins None setup image state =
+    (image ≡ None) × (state ≡ opened setup.processors setup.pages setup.first_ticket) × (setup.first_ticket < 2 ^ 64)
+Begins (Some s) setup image state = (image ≡ Some (image_of s)) × (state ≡ s) × IsImage (image_of s) s
+
+-- the format of the trace without a send, and its beginning
+abbrev pub begun_format : Option (List ℕ) → ℕ → Format
+begun_format None pages = opened_format pages
+begun_format (Some image) pages = Three
+
+abbrev pub begun_text : Option (List ℕ) → Setup → List ℕ
+begun_text None setup = board_text setup.processors (line_pages setup.pages) setup.first_ticket
+begun_text (Some image) setup = image

@@ -1,5 +1,6 @@
 -- The abstract view of the fields.
-use Rattle.std.specs.Prelude.{◌≡◌, List, [], ◌∷◌, ◌++◌, Option, Ok, Err}
+use Rattle.std.specs.Prelude.{◌≡◌, ℕ, List, [], ◌∷◌, ◌++◌, Option, Ok, Err, Vec}
+use Rattle.std.specs.Global.{Global}
 use Rattle.std.specs.Option.{option_map}
 use Rattle.synic_board.specs.State.{State, BoardModel}
 use Rattle.text_driver.specs.declared.judge.Taken.{Taken}
@@ -34,6 +35,10 @@ state_in board = option_map (λ (b : BoardModel). b.state) board
 
 abbrev pub optional_crew : Option CrewScript → Option Crew
 optional_crew script = option_map crew_of script
+
+-- the bytes of an image
+abbrev pub image_in : Option (Vec ℕ Global) → Option (List ℕ)
+image_in image = option_map (λ (bytes : Vec ℕ Global). bytes.items) image
 
 -- a line was good and added this, or it has a fault
 abbrev pub IsLineResult : Taken ScriptFault → Read → Option Crew → Type 0

@@ -5,13 +5,12 @@ ghost use Rattle.text_base.specs.Numbers.{two_digits};
 ghost use Rattle.text_lines.specs.Printing.{notice_fields, text_of};
 
 use board_terms::{Notice, Sint, Ticket, Vp};
-use std::alloc::AllocError;
-use text_base::{FRONT, byte_before, decimal_before, small_before, text_before};
+use text_base::{FRONT, Sink, byte_before, decimal_before, small_before, text_before};
 
 /// Appends a line for each notice to `out`.
 #[inline(always)]
-pub fn put_notices(out: &mut Vec<u8>, notices: &[Notice]) -> Result<(), AllocError>
-    ensures { OnOk result (out.new.items ≡ out.old.items ++ text_of (map notice_fields notices.now)) }
+pub fn put_notices<S: Sink>(out: &mut S, notices: &[Notice]) -> Result<(), S::Error>
+    ensures { OnOk result (S.text out.new ≡ S.text out.old ++ text_of (map notice_fields notices.now)) }
 {
     for notice in notices {
         put_notice(out, notice)?;
@@ -21,8 +20,8 @@ pub fn put_notices(out: &mut Vec<u8>, notices: &[Notice]) -> Result<(), AllocErr
 
 /// Appends the line of a notice.
 #[inline(always)]
-fn put_notice(out: &mut Vec<u8>, notice: &Notice) -> Result<(), AllocError>
-    ensures { OnOk result (out.new.items ≡ out.old.items ++ line_of (notice_fields notice.now)) }
+fn put_notice<S: Sink>(out: &mut S, notice: &Notice) -> Result<(), S::Error>
+    ensures { OnOk result (S.text out.new ≡ S.text out.old ++ line_of (notice_fields notice.now)) }
 {
     match *notice {
         Notice::Accepted { ticket, vp, sint } => put_message(out, b". accepted ", ticket, vp, sint),
@@ -43,16 +42,16 @@ fn put_notice(out: &mut Vec<u8>, notice: &Notice) -> Result<(), AllocError>
 
 /// Appends the line of a notice with a ticket, a processor and a source.
 #[inline(always)]
-fn put_message<const N: usize>(
-    out: &mut Vec<u8>,
+fn put_message<S: Sink, const N: usize>(
+    out: &mut S,
     head: &[u8; N],
     ticket: Ticket,
     vp: Vp,
     sint: Sint,
-) -> Result<(), AllocError>
+) -> Result<(), S::Error>
     requires { N ≤ 16 }
-    ensures { OnOk result (out.new.items
-        ≡ out.old.items ++ (head.now ++ line_of (decimal ticket ∷ decimal vp ∷ decimal sint ∷ []))) }
+    ensures { OnOk result (S.text out.new
+        ≡ S.text out.old ++ (head.now ++ line_of (decimal ticket ∷ decimal vp ∷ decimal sint ∷ []))) }
 {
     let mut room = [0u8; FRONT];
     let at = text_before(&mut room, FRONT, b"\n");
@@ -62,21 +61,21 @@ fn put_message<const N: usize>(
     let at = text_before(&mut room, at, b" ");
     let at = decimal_before(&mut room, at, ticket);
     let at = text_before(&mut room, at, head);
-    out.extend_from_slice(&room[at..])
+    out.put(&room[at..])
 }
 
 /// Appends the line of a notice with a processor, the number of its source or timer, and a value.
 #[inline(always)]
-fn put_numbers<const N: usize>(
-    out: &mut Vec<u8>,
+fn put_numbers<S: Sink, const N: usize>(
+    out: &mut S,
     head: &[u8; N],
     vp: Vp,
     number: u8,
     value: u64,
-) -> Result<(), AllocError>
+) -> Result<(), S::Error>
     requires { N ≤ 16 }
-    ensures { OnOk result (out.new.items
-        ≡ out.old.items ++ (head.now ++ line_of (decimal vp ∷ decimal number ∷ decimal value ∷ []))) }
+    ensures { OnOk result (S.text out.new
+        ≡ S.text out.old ++ (head.now ++ line_of (decimal vp ∷ decimal number ∷ decimal value ∷ []))) }
 {
     let mut room = [0u8; FRONT];
     let at = text_before(&mut room, FRONT, b"\n");
@@ -86,19 +85,19 @@ fn put_numbers<const N: usize>(
     let at = text_before(&mut room, at, b" ");
     let at = small_before(&mut room, at, vp.number());
     let at = text_before(&mut room, at, head);
-    out.extend_from_slice(&room[at..])
+    out.put(&room[at..])
 }
 
 /// Appends the line of a notice with a processor and a source.
 #[inline(always)]
-fn put_source<const N: usize>(
-    out: &mut Vec<u8>,
+fn put_source<S: Sink, const N: usize>(
+    out: &mut S,
     head: &[u8; N],
     vp: Vp,
     sint: Sint,
-) -> Result<(), AllocError>
+) -> Result<(), S::Error>
     requires { N ≤ 16 }
-    ensures { OnOk result (out.new.items ≡ out.old.items ++ (head.now ++ line_of (decimal vp ∷ decimal sint ∷ []))) }
+    ensures { OnOk result (S.text out.new ≡ S.text out.old ++ (head.now ++ line_of (decimal vp ∷ decimal sint ∷ []))) }
 {
     let mut room = [0u8; FRONT];
     let at = text_before(&mut room, FRONT, b"\n");
@@ -106,20 +105,20 @@ fn put_source<const N: usize>(
     let at = text_before(&mut room, at, b" ");
     let at = small_before(&mut room, at, vp.number());
     let at = text_before(&mut room, at, head);
-    out.extend_from_slice(&room[at..])
+    out.put(&room[at..])
 }
 
 /// Appends the line of a notice with a processor and a vector.
 #[inline(always)]
-fn put_request<const N: usize>(
-    out: &mut Vec<u8>,
+fn put_request<S: Sink, const N: usize>(
+    out: &mut S,
     head: &[u8; N],
     vp: Vp,
     vector: u8,
-) -> Result<(), AllocError>
+) -> Result<(), S::Error>
     requires { N ≤ 16 }
-    ensures { OnOk result (out.new.items
-        ≡ out.old.items ++ (head.now ++ line_of (decimal vp ∷ two_digits vector ∷ []))) }
+    ensures { OnOk result (S.text out.new
+        ≡ S.text out.old ++ (head.now ++ line_of (decimal vp ∷ two_digits vector ∷ []))) }
 {
     let mut room = [0u8; FRONT];
     let at = text_before(&mut room, FRONT, b"\n");
@@ -127,5 +126,5 @@ fn put_request<const N: usize>(
     let at = text_before(&mut room, at, b" ");
     let at = small_before(&mut room, at, vp.number());
     let at = text_before(&mut room, at, head);
-    out.extend_from_slice(&room[at..])
+    out.put(&room[at..])
 }

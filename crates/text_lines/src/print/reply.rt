@@ -7,16 +7,15 @@ ghost use Rattle.text_lines.specs.Printing.{reply_fields};
 
 use crate::print::put;
 use board_terms::{Bytes8, Ticket};
-use std::alloc::AllocError;
 use synic_board::Reply;
 use text_base::{
-    FRONT, bytes_before, decimal_before, digits_of, put_decimal, put_hex, text_before,
+    FRONT, Sink, bytes_before, decimal_before, digits_of, put_decimal, put_hex, text_before,
 };
 
 /// Appends the line of a reply to `out`.
 #[inline(always)]
-pub fn put_reply(out: &mut Vec<u8>, reply: Reply) -> Result<(), AllocError>
-    ensures { OnOk result (out.new.items ≡ out.old.items ++ line_of (reply_fields reply)) }
+pub fn put_reply<S: Sink>(out: &mut S, reply: Reply) -> Result<(), S::Error>
+    ensures { OnOk result (S.text out.new ≡ S.text out.old ++ line_of (reply_fields reply)) }
 {
     match reply {
         Reply::Done => put_constant(out, b"= done\n"),
@@ -42,8 +41,8 @@ pub fn put_reply(out: &mut Vec<u8>, reply: Reply) -> Result<(), AllocError>
 
 /// Appends a constant. It is copied first, so that the compiler sees that it does not overlap `out`.
 #[inline(always)]
-fn put_constant<const N: usize>(out: &mut Vec<u8>, text: &[u8; N]) -> Result<(), AllocError>
-    ensures { OnOk result (out.new.items ≡ out.old.items ++ text.now) }
+fn put_constant<S: Sink, const N: usize>(out: &mut S, text: &[u8; N]) -> Result<(), S::Error>
+    ensures { OnOk result (S.text out.new ≡ S.text out.old ++ text.now) }
 {
     let copy = *text;
     put(out, &copy)
@@ -51,9 +50,9 @@ fn put_constant<const N: usize>(out: &mut Vec<u8>, text: &[u8; N]) -> Result<(),
 
 /// Appends the line of the vector that was taken.
 #[inline(always)]
-fn put_taken(out: &mut Vec<u8>, vector: u8) -> Result<(), AllocError>
-    ensures { OnOk result (out.new.items
-        ≡ out.old.items ++ line_of (codes "=" ∷ codes "taken" ∷ two_digits vector ∷ [])) }
+fn put_taken<S: Sink>(out: &mut S, vector: u8) -> Result<(), S::Error>
+    ensures { OnOk result (S.text out.new
+        ≡ S.text out.old ++ line_of (codes "=" ∷ codes "taken" ∷ two_digits vector ∷ [])) }
 {
     let [high, low] = digits_of(vector);
     let mut line = *b"= taken ..\n";
@@ -64,9 +63,9 @@ fn put_taken(out: &mut Vec<u8>, vector: u8) -> Result<(), AllocError>
 
 /// Appends the line of the ticket of an accepted message.
 #[inline(always)]
-fn put_accepted(out: &mut Vec<u8>, ticket: Ticket) -> Result<(), AllocError>
-    ensures { OnOk result (out.new.items
-        ≡ out.old.items ++ line_of (codes "=" ∷ codes "accepted" ∷ decimal ticket ∷ [])) }
+fn put_accepted<S: Sink>(out: &mut S, ticket: Ticket) -> Result<(), S::Error>
+    ensures { OnOk result (S.text out.new
+        ≡ S.text out.old ++ line_of (codes "=" ∷ codes "accepted" ∷ decimal ticket ∷ [])) }
 {
     let mut room = [0u8; FRONT];
     let at = text_before(&mut room, FRONT, b"\n");
@@ -77,9 +76,9 @@ fn put_accepted(out: &mut Vec<u8>, ticket: Ticket) -> Result<(), AllocError>
 
 /// Appends the line of the bytes that were loaded.
 #[inline(always)]
-fn put_loaded(out: &mut Vec<u8>, bytes: &Bytes8) -> Result<(), AllocError>
-    ensures { OnOk result (out.new.items
-        ≡ out.old.items ++ line_of (codes "=" ∷ codes "bytes" ∷ bytes_text bytes.now.items ∷ [])) }
+fn put_loaded<S: Sink>(out: &mut S, bytes: &Bytes8) -> Result<(), S::Error>
+    ensures { OnOk result (S.text out.new
+        ≡ S.text out.old ++ line_of (codes "=" ∷ codes "bytes" ∷ bytes_text bytes.now.items ∷ [])) }
 {
     let bytes = bytes.as_slice();
     if bytes.is_empty() {

@@ -8,20 +8,19 @@ ghost use Rattle.text_lines.specs.inside.Autos.{auto_part};
 
 use crate::print::{put, put_vector};
 use board_terms::{Owner, Sint, TimerId, Vector, Vp};
-use std::alloc::AllocError;
 use synic_board::Summary;
-use text_base::{put_byte, put_decimal};
+use text_base::{Sink, put_byte, put_decimal};
 
 /// Appends the summary of a board of that many processors and pages to `out`.
-pub fn put_summary(
-    out: &mut Vec<u8>,
+pub fn put_summary<S: Sink>(
+    out: &mut S,
     summary: &Summary,
     processors: u8,
     pages: u8,
-) -> Result<(), AllocError>
+) -> Result<(), S::Error>
     requires sizes { HasSizes processors pages summary.now.values }
     requires bound { processors ≤ 64 }
-    ensures { OnOk result (out.new.items ≡ out.old.items ++ text_of (summary_lines summary.now.values)) }
+    ensures { OnOk result (S.text out.new ≡ S.text out.old ++ text_of (summary_lines summary.now.values)) }
 {
     put_nexts(out, summary, processors)?;
     put_autos(out, summary, processors)?;
@@ -31,10 +30,11 @@ pub fn put_summary(
 }
 
 /// Appends the next vector of each processor.
-fn put_nexts(out: &mut Vec<u8>, summary: &Summary, processors: u8) -> Result<(), AllocError>
+fn put_nexts<S: Sink>(out: &mut S, summary: &Summary, processors: u8) -> Result<(), S::Error>
     requires count { processors ≡ length summary.now.values.nexts }
     requires bound { processors ≤ 64 }
-    ensures { OnOk result (out.new.items ≡ out.old.items ++ text_of (numbered next_lines 0 summary.now.values.nexts)) }
+    ensures { OnOk result (S.text out.new
+        ≡ S.text out.old ++ text_of (numbered next_lines 0 summary.now.values.nexts)) }
 {
     for number in 0..processors {
         if let Some(vp) = Vp::new(number) {
@@ -44,9 +44,9 @@ fn put_nexts(out: &mut Vec<u8>, summary: &Summary, processors: u8) -> Result<(),
     Ok(())
 }
 
-fn put_next(out: &mut Vec<u8>, summary: &Summary, vp: Vp) -> Result<(), AllocError>
-    ensures { OnOk result (out.new.items
-        ≡ out.old.items ++ text_of (next_lines vp (slice_index_or summary.now.values.nexts vp None))) }
+fn put_next<S: Sink>(out: &mut S, summary: &Summary, vp: Vp) -> Result<(), S::Error>
+    ensures { OnOk result (S.text out.new
+        ≡ S.text out.old ++ text_of (next_lines vp (slice_index_or summary.now.values.nexts vp None))) }
 {
     put(out, b": next ")?;
     put_decimal(out, vp.number())?;
@@ -56,10 +56,11 @@ fn put_next(out: &mut Vec<u8>, summary: &Summary, vp: Vp) -> Result<(), AllocErr
 }
 
 /// Appends the auto-EOI vectors of each processor that has any.
-fn put_autos(out: &mut Vec<u8>, summary: &Summary, processors: u8) -> Result<(), AllocError>
+fn put_autos<S: Sink>(out: &mut S, summary: &Summary, processors: u8) -> Result<(), S::Error>
     requires count { processors ≡ length summary.now.values.autos }
     requires bound { processors ≤ 64 }
-    ensures { OnOk result (out.new.items ≡ out.old.items ++ text_of (numbered auto_lines 0 summary.now.values.autos)) }
+    ensures { OnOk result (S.text out.new
+        ≡ S.text out.old ++ text_of (numbered auto_lines 0 summary.now.values.autos)) }
 {
     for number in 0..processors {
         put_auto(out, summary, number)?;
@@ -67,10 +68,10 @@ fn put_autos(out: &mut Vec<u8>, summary: &Summary, processors: u8) -> Result<(),
     Ok(())
 }
 
-fn put_auto(out: &mut Vec<u8>, summary: &Summary, number: u8) -> Result<(), AllocError>
+fn put_auto<S: Sink>(out: &mut S, summary: &Summary, number: u8) -> Result<(), S::Error>
     requires { number < 64 }
-    ensures { OnOk result (out.new.items
-        ≡ out.old.items ++ text_of (auto_lines number (slice_index_or summary.now.values.autos number set.empty))) }
+    ensures { OnOk result (S.text out.new
+        ≡ S.text out.old ++ text_of (auto_lines number (slice_index_or summary.now.values.autos number set.empty))) }
 {
     match Vp::new(number) {
         Some(vp) => put_auto_line(out, summary, vp),
@@ -78,33 +79,33 @@ fn put_auto(out: &mut Vec<u8>, summary: &Summary, number: u8) -> Result<(), Allo
     }
 }
 
-fn put_auto_line(out: &mut Vec<u8>, summary: &Summary, vp: Vp) -> Result<(), AllocError>
-    ensures { OnOk result (out.new.items
-        ≡ out.old.items ++ text_of (auto_lines vp (slice_index_or summary.now.values.autos vp set.empty))) }
+fn put_auto_line<S: Sink>(out: &mut S, summary: &Summary, vp: Vp) -> Result<(), S::Error>
+    ensures { OnOk result (S.text out.new
+        ≡ S.text out.old ++ text_of (auto_lines vp (slice_index_or summary.now.values.autos vp set.empty))) }
 {
     let mut any = false;
     for above in 0..240 {
         any = put_if_auto(out, summary, vp, 16 + above, any)?;
     }
-    if any {
-        put(out, b"\n")?;
+    if !any {
+        return Ok(());
     }
-    Ok(())
+    put(out, b"\n")
 }
 
 /// Appends a vector if it is auto-EOI, and returns whether the line is begun.
-fn put_if_auto(
-    out: &mut Vec<u8>,
+fn put_if_auto<S: Sink>(
+    out: &mut S,
     summary: &Summary,
     vp: Vp,
     number: u8,
     any: bool,
-) -> Result<bool, AllocError>
+) -> Result<bool, S::Error>
     requires { 16 ≤ number }
     ensures begun { IfOk result
         (λ now. now ≡ (any || set.contains (slice_index_or summary.now.values.autos vp set.empty) number)) }
     ensures written { OnOk result
-        (out.new.items ≡ out.old.items
+        (S.text out.new ≡ S.text out.old
         ++ (if set.contains (slice_index_or summary.now.values.autos vp set.empty) number then auto_part vp number any
         else [])) }
 {
@@ -118,8 +119,8 @@ fn put_if_auto(
 }
 
 /// Appends an auto-EOI vector; the first one follows the head of the line.
-fn put_auto_vector(out: &mut Vec<u8>, vp: Vp, vector: Vector, any: bool) -> Result<(), AllocError>
-    ensures { OnOk result (out.new.items ≡ out.old.items ++ auto_part vp vector any) }
+fn put_auto_vector<S: Sink>(out: &mut S, vp: Vp, vector: Vector, any: bool) -> Result<(), S::Error>
+    ensures { OnOk result (S.text out.new ≡ S.text out.old ++ auto_part vp vector any) }
 {
     if !any {
         put(out, b": auto ")?;
@@ -130,8 +131,8 @@ fn put_auto_vector(out: &mut Vec<u8>, vp: Vp, vector: Vector, any: bool) -> Resu
 }
 
 /// Appends the earliest timer.
-fn put_earliest(out: &mut Vec<u8>, earliest: Option<(u128, TimerId)>) -> Result<(), AllocError>
-    ensures { OnOk result (out.new.items ≡ out.old.items ++ line_of (timer_line earliest)) }
+fn put_earliest<S: Sink>(out: &mut S, earliest: Option<(u128, TimerId)>) -> Result<(), S::Error>
+    ensures { OnOk result (S.text out.new ≡ S.text out.old ++ line_of (timer_line earliest)) }
 {
     let Some((due, timer)) = earliest else {
         return put(out, b": timer none\n");
@@ -146,9 +147,10 @@ fn put_earliest(out: &mut Vec<u8>, earliest: Option<(u128, TimerId)>) -> Result<
 }
 
 /// Appends each page that an overlay obscures.
-fn put_pages(out: &mut Vec<u8>, summary: &Summary, pages: u8) -> Result<(), AllocError>
+fn put_pages<S: Sink>(out: &mut S, summary: &Summary, pages: u8) -> Result<(), S::Error>
     requires { pages ≡ length summary.now.values.owners }
-    ensures { OnOk result (out.new.items ≡ out.old.items ++ text_of (numbered page_lines 0 summary.now.values.owners)) }
+    ensures { OnOk result (S.text out.new
+        ≡ S.text out.old ++ text_of (numbered page_lines 0 summary.now.values.owners)) }
 {
     for page in 0..pages {
         put_page(out, page, summary.owner(u64::from(page)))?;
@@ -156,8 +158,8 @@ fn put_pages(out: &mut Vec<u8>, summary: &Summary, pages: u8) -> Result<(), Allo
     Ok(())
 }
 
-fn put_page(out: &mut Vec<u8>, page: u8, owner: Owner) -> Result<(), AllocError>
-    ensures { OnOk result (out.new.items ≡ out.old.items ++ text_of (page_lines page owner)) }
+fn put_page<S: Sink>(out: &mut S, page: u8, owner: Owner) -> Result<(), S::Error>
+    ensures { OnOk result (S.text out.new ≡ S.text out.old ++ text_of (page_lines page owner)) }
 {
     match owner {
         Owner::Guest | Owner::Nothing => Ok(()),
@@ -166,9 +168,9 @@ fn put_page(out: &mut Vec<u8>, page: u8, owner: Owner) -> Result<(), AllocError>
     }
 }
 
-fn put_overlay(out: &mut Vec<u8>, page: u8, kind: &[u8], vp: Vp) -> Result<(), AllocError>
-    ensures { OnOk result (out.new.items
-        ≡ out.old.items ++ text_of ((codes ":" ∷ codes "page" ∷ decimal page ∷ kind.now ∷ decimal vp ∷ []) ∷ [])) }
+fn put_overlay<S: Sink>(out: &mut S, page: u8, kind: &[u8], vp: Vp) -> Result<(), S::Error>
+    ensures { OnOk result (S.text out.new
+        ≡ S.text out.old ++ text_of ((codes ":" ∷ codes "page" ∷ decimal page ∷ kind.now ∷ decimal vp ∷ []) ∷ [])) }
 {
     put(out, b": page ")?;
     put_decimal(out, page)?;
@@ -180,11 +182,11 @@ fn put_overlay(out: &mut Vec<u8>, page: u8, kind: &[u8], vp: Vp) -> Result<(), A
 }
 
 /// Appends the length of each queue that is not empty.
-fn put_queues(out: &mut Vec<u8>, summary: &Summary, sources: u16) -> Result<(), AllocError>
+fn put_queues<S: Sink>(out: &mut S, summary: &Summary, sources: u16) -> Result<(), S::Error>
     requires count { sources ≡ length summary.now.values.queued }
     requires bound { sources ≤ 1024 }
-    ensures { OnOk result (out.new.items
-        ≡ out.old.items ++ text_of (numbered queue_lines 0 summary.now.values.queued)) }
+    ensures { OnOk result (S.text out.new
+        ≡ S.text out.old ++ text_of (numbered queue_lines 0 summary.now.values.queued)) }
 {
     for place in 0..sources {
         let (vp, sint) = ((place / 16) as u8, (place % 16) as u8);
@@ -195,8 +197,8 @@ fn put_queues(out: &mut Vec<u8>, summary: &Summary, sources: u16) -> Result<(), 
     Ok(())
 }
 
-fn put_queue(out: &mut Vec<u8>, place: u16, count: u16) -> Result<(), AllocError>
-    ensures { OnOk result (out.new.items ≡ out.old.items ++ text_of (queue_lines place count)) }
+fn put_queue<S: Sink>(out: &mut S, place: u16, count: u16) -> Result<(), S::Error>
+    ensures { OnOk result (S.text out.new ≡ S.text out.old ++ text_of (queue_lines place count)) }
 {
     if count == 0 {
         return Ok(());
@@ -204,8 +206,8 @@ fn put_queue(out: &mut Vec<u8>, place: u16, count: u16) -> Result<(), AllocError
     put_length(out, place, count)
 }
 
-fn put_length(out: &mut Vec<u8>, place: u16, count: u16) -> Result<(), AllocError>
-    ensures { OnOk result (out.new.items ≡ out.old.items ++ text_of (queue_line place count ∷ [])) }
+fn put_length<S: Sink>(out: &mut S, place: u16, count: u16) -> Result<(), S::Error>
+    ensures { OnOk result (S.text out.new ≡ S.text out.old ++ text_of (queue_line place count ∷ [])) }
 {
     put(out, b": queue ")?;
     put_decimal(out, place / 16)?;

@@ -2,7 +2,7 @@ use Rattle.std.proofs.Common.{refl}
 use Rattle.std.specs.Fmt.{digits}
 use Rattle.synic_board.specs.Step.{step}
 use Rattle.text_lines.specs.Reading.{item_at}
-use Rattle.board_script.specs.Output.{output_on, fault_on}
+use Rattle.text_script.specs.Output.{output_on, fault_on}
 use Rattle.law_texts.proofs.laws.law_texts.Goals as goal
 
 pub returns-clause-empty : goal.returns-clause-empty

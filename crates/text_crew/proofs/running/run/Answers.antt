@@ -7,7 +7,7 @@ use Rattle.text_crew.proofs.running.run.Goals as goal
 
 pub returns-then-not-close : goal.returns-then-not-close
 returns-then-not-close g c =
-    let s = c.close.ensures in
+    let s = c.close-in-Unsettled.ensures in
     record { sent = s.0; is = record { end = Unsettled; unsent = s.1; text = sym s.3 }; appended = s.2 }
 
 pub returns-then-not-close-2 : goal.returns-then-not-close-2

@@ -5,7 +5,7 @@ use Rattle.text_lines.specs.inside.Autos.{auto_text, is_some_vector}
 use Rattle.text_lines.proofs.print.summary.put_auto_line.Given as goal
 
 abbrev pub invariant-loop-above : goal.invariant-loop-above
-invariant-loop-above l =
+invariant-loop-above g l =
     let found =
     below l.above (slice_index_or l.summary.values.autos l.vp set.empty) in
-    (l.out.items ≡ l.fn.out.items ++ auto_text l.vp found) × (l.any ≡ is_some_vector found)
+    (g.S.Sink.text l.out ≡ g.S.Sink.text l.fn.out ++ auto_text l.vp found) × (l.any ≡ is_some_vector found)

@@ -3,6 +3,6 @@ use Rattle.text_lines.specs.Printing.{numbered, next_lines, text_of}
 use Rattle.text_lines.proofs.print.summary.put_nexts.Given as goal
 
 abbrev pub invariant-loop-number : goal.invariant-loop-number
-invariant-loop-number l =
-    l.out.items ++ text_of (numbered next_lines l.number (drop l.number l.summary.values.nexts))
-    ≡ l.fn.out.items ++ text_of (numbered next_lines 0 l.summary.values.nexts)
+invariant-loop-number g l =
+    g.S.Sink.text l.out ++ text_of (numbered next_lines l.number (drop l.number l.summary.values.nexts))
+    ≡ g.S.Sink.text l.fn.out ++ text_of (numbered next_lines 0 l.summary.values.nexts)

@@ -4,5 +4,6 @@ use Rattle.text_lines.proofs.PrintLemmas.{numbered-end}
 use Rattle.text_lines.proofs.print.summary.put_queues.Goals as goal
 
 pub returns : goal.returns
-returns c = numbered-end queue_lines c.loop-place.place c.args.summary.now.values.queued c.loop-place.out.items _
+returns g c =
+    numbered-end queue_lines c.loop-place.place c.args.summary.now.values.queued (g.S.Sink.text c.loop-place.out) _
     (omega arith) c.loop-place.invariant

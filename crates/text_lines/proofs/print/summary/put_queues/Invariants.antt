@@ -3,6 +3,6 @@ use Rattle.text_lines.specs.Printing.{numbered, queue_lines, text_of}
 use Rattle.text_lines.proofs.print.summary.put_queues.Given as goal
 
 abbrev pub invariant-loop-place : goal.invariant-loop-place
-invariant-loop-place l =
-    l.out.items ++ text_of (numbered queue_lines l.place (drop l.place l.summary.values.queued))
-    ≡ l.fn.out.items ++ text_of (numbered queue_lines 0 l.summary.values.queued)
+invariant-loop-place g l =
+    g.S.Sink.text l.out ++ text_of (numbered queue_lines l.place (drop l.place l.summary.values.queued))
+    ≡ g.S.Sink.text l.fn.out ++ text_of (numbered queue_lines 0 l.summary.values.queued)

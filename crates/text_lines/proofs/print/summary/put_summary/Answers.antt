@@ -6,15 +6,16 @@ use Rattle.text_lines.proofs.SummaryLemmas.{parts}
 use Rattle.text_lines.proofs.print.summary.put_summary.Goals as goal
 
 pub returns : goal.returns
-returns c =
+returns g c =
     let values = c.args.summary.now.values in
     let timer = c.in_ok-put_earliest.ensures
-    ∙ ap (λ (earliest : Option (ℕ × (ℕ × ℕ))). c.put_autos.new.out.items ++ line_of (timer_line earliest))
+    ∙ ap (λ (earliest : Option (ℕ × (ℕ × ℕ))). g.S.Sink.text c.put_autos.new.out ++ line_of (timer_line earliest))
     c.earliest.ensures in
-    let last : c.put_queues.new.out.items
-    ≡ c.put_pages.new.out.items ++ text_of (numbered queue_lines 0 values.queued) →
-    c.put_queues.new.out.items ≡ c.args.out.now.items ++ text_of (summary_lines values) =
-    parts values c.args.out.now.items c.put_nexts.new.out.items c.put_autos.new.out.items c.put_earliest.new.out.items
-    c.put_pages.new.out.items
-    c.put_queues.new.out.items c.in_ok-put_nexts.ensures c.in_ok-put_autos.ensures timer c.in_ok-put_pages.ensures in
+    let last : (g.S.Sink.text c.put_queues.new.out)
+    ≡ g.S.Sink.text c.put_pages.new.out ++ text_of (numbered queue_lines 0 values.queued) →
+    g.S.Sink.text c.put_queues.new.out ≡ g.S.Sink.text c.args.out.now ++ text_of (summary_lines values) =
+    parts values (g.S.Sink.text c.args.out.now) (g.S.Sink.text c.put_nexts.new.out)
+    (g.S.Sink.text c.put_autos.new.out) (g.S.Sink.text c.put_earliest.new.out) (g.S.Sink.text c.put_pages.new.out)
+    (g.S.Sink.text c.put_queues.new.out) c.in_ok-put_nexts.ensures c.in_ok-put_autos.ensures timer
+    c.in_ok-put_pages.ensures in
     on_ok_weaker c.put_queues.result last c.put_queues.ensures
