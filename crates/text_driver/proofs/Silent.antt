@@ -1,4 +1,4 @@
--- Judges that are seen through a part of their state, and judges that answer nothing.
+-- A `Judge` of which a part of the state is enough, and one that answers nothing.
 use Rattle.std.proofs.Common.{◌≡◌, ℕ, List, [], refl, sym, append-nil}
 use Rattle.text_driver.specs.Judging.{Judges, Puts, Answers}
 use Rattle.text_driver.specs.declared.judge.Taken.{Taken}

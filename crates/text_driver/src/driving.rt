@@ -1,4 +1,4 @@
-// Driving a judge over the lines of a reader.
+// Driving a `Judge` over the lines of a reader.
 ghost use Rattle.std.specs.Prelude.{◌≡◌, Some};
 ghost use Rattle.text_base.specs.Buffered.{at_start};
 ghost use Rattle.text_base.specs.Streams.{ReadsUpTo};
@@ -29,7 +29,7 @@ pub enum End<F> {
     Writing,
 }
 
-/// Has the judge take each line of the reader in turn, up to the first that is not good, and writes the
+/// Passes each line of the reader to the `Judge` in turn, up to the first that is not good, and writes the
 /// answers to the good lines: at the latest before the next read and at the end, whatever the end is. The
 /// writer is flushed before each read, and not at the end. The memory that this allocates does not depend on
 /// the length of the input.
@@ -61,7 +61,7 @@ struct Through<'a, W: Write> {
     writer: &'a mut W,
 }
 
-/// Drives a judge over the lines of a source, and says at `end` how.
+/// Passes the lines of a source to a `Judge`, sends the answers, and stores at `end` how that ended.
 fn drive_through<'a, R: Read, W: Write, J: Judge>(
     source: Source,
     reader: &mut R,
@@ -87,7 +87,8 @@ fn drive_through<'a, R: Read, W: Write, J: Judge>(
     Through { writer }
 }
 
-/// Has the judge take the lines of a source. If a read failed, all answers are written before it.
+/// Passes the lines of a source to a `Judge`, which puts the answers. If a read failed, all of them were
+/// written before it.
 #[inline(always)]
 fn take_lines<R: Read, W: Write, J: Judge>(
     mut source: Source,
