@@ -64,7 +64,7 @@ impl<'a, W: Write> Output<'a, W> {
     /// Writes what is in the buffer, and flushes. `false` if a write or the flush failed, or a write
     /// returned 0.
     #[inline(never)]
-    pub fn flush(&mut self) -> bool
+    pub(crate) fn flush(&mut self) -> bool
         ensures same { HasSame self.old self.new }
         ensures written { IsTrue result → IsWritten self.new }
     {

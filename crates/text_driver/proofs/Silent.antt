@@ -1,5 +1,5 @@
 -- A `Judge` of which a part of the state is enough, and one that answers nothing.
-use Rattle.std.proofs.Common.{◌≡◌, ℕ, List, [], refl, sym, append-nil}
+use Rattle.std.proofs.Common.{ℕ, List, [], refl, sym, append-nil}
 use Rattle.text_driver.specs.Judging.{Judges, Puts, Answers}
 use Rattle.text_driver.specs.declared.judge.Taken.{Taken}
 use Rattle.text_driver.specs.declared.judge.Taken.TheVariants as taken

@@ -1,6 +1,4 @@
-use Rattle.std.proofs.Common.{◌≡◌, ◌∙◌, [], List, ℕ, Option, Some, Bool, false, not, sym, ap, subst, true}
-use Rattle.text_base.specs.Outputs.{Holds, IsWritten}
-use Rattle.text_driver.specs.Driving.{Drives}
+use Rattle.std.proofs.Common.{◌≡◌, ◌∙◌, false, sym, true}
 use Rattle.text_driver.proofs.Written.{all-written, part-written, within-limit}
 use Rattle.text_driver.proofs.driving.drive_through.Goals as goal
 
