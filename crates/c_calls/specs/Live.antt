@@ -9,7 +9,7 @@ use Rattle.c_handles.specs.declared.live.LiveWithNotices.{LiveWithNotices}
 use Rattle.c_handles.specs.Kinds.{late_in, IsMadeLive}
 use Rattle.c_terms.specs.declared.notice.CNotice.{CNotice}
 use Rattle.c_terms.specs.declared.reply.CReply.{CReply}
-use Rattle.c_terms.specs.declared.reply.Fault.TheVariants.{Closed, IsLive, NotLive, NoEvent}
+use Rattle.c_terms.specs.declared.reply.Fault.TheVariants.{Closed, NotLive, NoEvent}
 use Rattle.c_terms.specs.Notices.{notice_to_c}
 use Rattle.c_terms.specs.Replies.{reply_to_c, fault_to_c}
 use Rattle.live_board.specs.Acting.{Acts}

@@ -20,7 +20,7 @@ use Rattle.synic_board.specs.declared.event.Event.{Event}
 use Rattle.synic_board.specs.declared.event.Event.TheVariants.{Absorb}
 use Rattle.synic_board.specs.State.{State, processors}
 use Rattle.synic_board.specs.Step.{step}
-use Rattle.text_trace.specs.Trace.{IsTrace}
+use Rattle.text_history.specs.Trace.{IsTrace}
 
 -- a caller's buffer of notices, before a call and after it
 pub record Buffer : Type 0 where

@@ -1,5 +1,5 @@
 // Boards whose message and event flags pages a running guest loads and stores.
-ghost use Rattle.std.specs.Prelude.{◌≡◌, ◌≢◌, ◌↔◌, ◌<◌, ◌≤◌, ℕ, true, false, [], ◌∷◌, length, None, Some, IfSome, IfNone, IsTrue};
+ghost use Rattle.std.specs.Prelude.{◌≡◌, ◌≢◌, ◌↔◌, ◌<◌, ◌≤◌, true, false, [], ◌∷◌, length, None, Some, IfSome, IfNone, IsTrue};
 ghost use Rattle.c_handles.specs.Kinds.{IsMadeLive};
 ghost use Rattle.c_terms.specs.Events.{event_from_c};
 ghost use Rattle.c_terms.specs.Rooms.{Fronts};

@@ -1,6 +1,6 @@
 // Scripts, traces and images in buffers.
 ghost use Rattle.std.specs.Prelude.{◌≡◌, ◌≢◌, ◌<◌, ◌↔◌, true, [], ◌∷◌, None};
-ghost use Rattle.text_trace.specs.Trace.{IsTrace};
+ghost use Rattle.text_history.specs.Trace.{IsTrace};
 ghost use Rattle.text_trace.specs.Verdicts.{FirstIllegal};
 ghost use Rattle.c_terms.specs.Events.{event_from_c};
 ghost use Rattle.c_terms.specs.Replies.{reply_from_c};

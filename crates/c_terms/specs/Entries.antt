@@ -1,8 +1,8 @@
 -- The lines of a trace entry, and the trace of a history.
 use Rattle.std.specs.Prelude.{ℕ, [], ◌∷◌, List, Option, Some, None}
 use Rattle.text_lines.specs.Printing.{text_of}
-use Rattle.text_trace.specs.declared.format.Format.TheVariants.{Two}
-use Rattle.text_trace.specs.Trace.{history_lines, board_text, format_for, trace}
+use Rattle.text_history.specs.declared.format.Format.TheVariants.{Two}
+use Rattle.text_history.specs.Trace.{history_lines, board_text, format_for, trace}
 use Rattle.c_handles.specs.Histories.{HistoryModel, start_of}
 use Rattle.synic_board.specs.declared.event.Event.{Event}
 use Rattle.synic_board.specs.declared.event.Reply.{Reply}

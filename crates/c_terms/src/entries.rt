@@ -7,7 +7,7 @@ ghost use Rattle.c_terms.specs.Entries.{entry_text};
 use crate::{CEvent, CReply, event_of, reply_of};
 use std::alloc::Global;
 use synic_board::Entry;
-use text_trace::put_entry;
+use text_history::put_entry;
 use thiserror::Error;
 
 /// Why no entry was formatted.

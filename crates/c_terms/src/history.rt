@@ -1,13 +1,13 @@
 // The trace of a history.
 ghost use Rattle.std.specs.Prelude.{◌≡◌, length, IfOk};
-ghost use Rattle.text_trace.specs.Trace.{IsTrace};
+ghost use Rattle.text_history.specs.Trace.{IsTrace};
 ghost use Rattle.c_handles.specs.Histories.{end_of};
 ghost use Rattle.c_terms.specs.Entries.{trace_of};
 
 use board_terms::Ticket;
 use c_handles::History;
 use std::alloc::{AllocError, Global};
-use text_trace::put_trace;
+use text_history::put_trace;
 
 /// The trace of a history, in format 2, or in format 5 if it has a send. It is legal, with as many
 /// entries as the history.

@@ -5,8 +5,9 @@ use board_terms::{Notices, Vector};
 use std::alloc::{AllocError, Global};
 use std::cell::Cell;
 use synic_board::{Board, Entry, Event};
+use text_history::put_trace_from_image;
 use text_image::put_image;
-use text_trace::{CheckEnd, check_trace, put_trace_from_image};
+use text_trace::{CheckEnd, check_trace};
 
 /// The first bytes, the bytes that repeat after them, and the number of the first wrong line, a
 /// single digit.

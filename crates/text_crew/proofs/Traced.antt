@@ -6,11 +6,11 @@ use Rattle.synic_board.specs.State.{State, IsWithinLimits, opened}
 use Rattle.synic_board.specs.declared.history.Entry.{Entry}
 use Rattle.synic_board.specs.History.{leads_to}
 use Rattle.board_threads.specs.declared.settling.Ended.{Ended}
-use Rattle.text_trace.specs.declared.format.Format.{Format}
-use Rattle.text_trace.specs.declared.format.Format.TheVariants.{Three}
+use Rattle.text_history.specs.declared.format.Format.{Format}
+use Rattle.text_history.specs.declared.format.Format.TheVariants.{Three}
 use Rattle.text_image.specs.Image.{image as image_of}
-use Rattle.text_trace.specs.Trace.{IsBeginning, IsEntry, format_for, board_text, trace, trace_text}
-use Rattle.text_trace.proofs.LawLemmas.{begins-for}
+use Rattle.text_history.specs.Trace.{IsBeginning, IsEntry, format_for, board_text, trace, trace_text}
+use Rattle.text_history.proofs.BeginningLemmas.{begins-for}
 use Rattle.text_crew.specs.Crew.{Crew}
 use Rattle.text_crew.specs.Running.{IsScriptHistory, IsCrewTrace, IsTraceOn, line_pages, opened_format}
 use Rattle.text_crew.specs.inside.Good.{IsGoodOn}

@@ -13,9 +13,9 @@ use Rattle.text_lines.specs.Faults.{fault_text}
 use Rattle.text_lines.specs.declared.fault.ScriptFault.{ScriptFault}
 use Rattle.text_driver.specs.Driving.{ReadsNear}
 use Rattle.text_image.specs.Image.{image}
-use Rattle.text_trace.specs.Trace.{board_text, format_for, trace, IsTrace}
-use Rattle.text_trace.specs.declared.format.Format.{Format}
-use Rattle.text_trace.specs.declared.format.Format.TheVariants.{Two, Three, Four}
+use Rattle.text_history.specs.Trace.{board_text, format_for, trace, IsTrace}
+use Rattle.text_history.specs.declared.format.Format.{Format}
+use Rattle.text_history.specs.declared.format.Format.TheVariants.{Two, Three, Four}
 use Rattle.text_crew.specs.Crew.{Crew, new_crew, finished, entries_of}
 use Rattle.text_crew.specs.Reading.{parse_from}
 use Rattle.text_crew.specs.declared.running.CrewRun.{CrewRun}

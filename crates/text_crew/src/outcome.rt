@@ -3,7 +3,7 @@ ghost use Rattle.std.specs.Prelude.{◌≡◌, ◌≢◌, ◌<◌, ◌^◌, [], 
 ghost use Rattle.synic_board.specs.State.{IsWithinLimits, opened};
 ghost use Rattle.text_image.specs.Image.{image};
 ghost use Rattle.text_restore.specs.Images.{IsImage};
-ghost use Rattle.text_trace.specs.Trace.{board_text};
+ghost use Rattle.text_history.specs.Trace.{board_text};
 ghost use Rattle.text_crew.specs.Running.{line_pages};
 ghost use Rattle.text_crew.specs.inside.Good.{HasBoard, IsGoodOn};
 ghost use Rattle.text_crew.specs.inside.Reporting.{Prepares};
@@ -17,9 +17,9 @@ use std::alloc::{AllocError, Global};
 use std::sync::Wait;
 use std::thread::Threads;
 use synic_board::{Board, OpenFault};
+use text_history::{Format, put_sparse_trace, put_trace, put_trace_from_image};
 use text_image::put_image;
 use text_lines::open_board;
-use text_trace::{Format, put_sparse_trace, put_trace, put_trace_from_image};
 
 /// The result of running a crew.
 #[derive(Clone, Copy)]

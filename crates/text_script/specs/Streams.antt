@@ -2,7 +2,6 @@
 use Rattle.std.specs.Prelude.{◌≡◌, ℕ, List, [], ◌++◌, Option, None, Some, is_some, IfSome}
 use Rattle.std.specs.Io.KnownBytes.{Consumes, Appends}
 use Rattle.text_driver.specs.Driving.{ReadsNear}
-use Rattle.text_driver.specs.declared.judge.Taken.TheVariants as taken
 use Rattle.text_script.specs.Output.{Machine, output_on, fault_on, text_on, fault_of, saved_text}
 use Rattle.text_script.specs.declared.stream.ReplayEnd.{ReplayEnd}
 use Rattle.text_script.specs.declared.stream.ReplayEnd.TheVariants.{Done, Script, Memory, Reading, Writing}

@@ -18,8 +18,8 @@ use Rattle.text_lines.specs.Reading.{u8_at}
 use Rattle.text_lines.specs.Sizes.{opened_by}
 use Rattle.text_lines.proofs.ReadLemmas.{u8-spelled}
 use Rattle.text_lines.proofs.WrittenLemmas.{board-written}
-use Rattle.text_trace.specs.declared.format.Format.{Format}
-use Rattle.text_trace.specs.Trace.{IsEntry, IsOpening, IsBeginning, IsTrace, title_fields, entry_fields, end_fields, history_lines}
+use Rattle.text_history.specs.declared.format.Format.{Format}
+use Rattle.text_history.specs.Trace.{IsEntry, IsOpening, IsBeginning, IsTrace, title_fields, entry_fields, end_fields, history_lines}
 use Rattle.text_trace.specs.inside.Stages.{Title, Opening as Beginning, image_title, follow, entry_at, Board, board_at}
 use Rattle.text_base.proofs.PlainWords.{IsWritten}
 use Rattle.text_base.proofs.LineLemmas.{AreLines, cut}

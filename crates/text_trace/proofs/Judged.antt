@@ -10,7 +10,7 @@ use Rattle.text_driver.specs.Judging.{AreGoodLines}
 use Rattle.text_driver.specs.Driving.{next_of, place, Ends, Stops, Sends, Drives}
 use Rattle.text_driver.specs.declared.driving.End.{End}
 use Rattle.text_driver.specs.declared.driving.End.TheVariants as ends
-use Rattle.text_trace.specs.Trace.{IsTrace, Begins}
+use Rattle.text_history.specs.Trace.{IsTrace, Begins}
 use Rattle.text_trace.specs.inside.Stages.{Stage, Title, Over, IsOver, IsGood, IsWrong}
 use Rattle.text_trace.specs.Verdicts.{FirstIllegal, IsVerdict, verdict_text, Checks}
 use Rattle.text_trace.specs.inside.Concluding.{conclusion, Concludes, WritesVerdict}

@@ -4,4 +4,3 @@ pub mod Judged
 pub mod Limits
 pub mod Histories
 pub mod LawLemmas
-pub mod PrintLemmas

@@ -27,9 +27,9 @@ use Rattle.text_restore.specs.Images.{Leads, IsImage}
 use Rattle.text_restore.specs.Taking.{has_ended}
 use Rattle.text_restore.proofs.Unique.{one-next}
 use Rattle.text_restore.proofs.Completing.{IsOpen, no-more, ended, not-ended, open-next, Ending, can-end}
-use Rattle.text_trace.specs.declared.format.Format.{Format}
-use Rattle.text_trace.specs.declared.format.Format.TheVariants.{One, Two, Three, Four, Five}
-use Rattle.text_trace.specs.Trace.{IsEntry, title_fields, entry_fields, end_fields, history_lines, trace, board_text, may_open, may_restore, IsOpening, IsBeginning, IsTrace}
+use Rattle.text_history.specs.declared.format.Format.{Format}
+use Rattle.text_history.specs.declared.format.Format.TheVariants.{One, Two, Three, Four, Five}
+use Rattle.text_history.specs.Trace.{IsEntry, title_fields, entry_fields, end_fields, history_lines, trace, board_text, may_open, may_restore, IsOpening, IsBeginning, IsTrace}
 use Rattle.text_trace.specs.inside.Stages.{Stage, Title, Opening, Image, Running, Over, entry_at, Board as BoardValues, board_at, begun, performed, image_title, begins_image, entered, follow, Follows, IsWrong, count}
 use Rattle.synic_board.specs.Replies.{IsReply}
 use Rattle.law_board.proofs.Replies.{step-fits}

@@ -22,9 +22,9 @@ use Rattle.text_lines.specs.Sizes.{AreBoardSizes, are_sizes}
 use Rattle.text_lines.proofs.ReadLemmas.{then-some, then-read, yes, u8-only, u8-spelled, event-says, says-event, opening-says, says-opening}
 use Rattle.text_lines.proofs.SizeLemmas.{sizes-are}
 use Rattle.text_lines.proofs.WrittenLemmas.{bytes-plain, bytes-short, event-plain, board-written}
-use Rattle.text_trace.specs.declared.format.Format.{Format}
-use Rattle.text_trace.specs.declared.format.Format.TheVariants.{One, Two, Three, Four, Five}
-use Rattle.text_trace.specs.Trace.{IsEntry, is_reset, is_send, has_line, may_open, title_fields, entry_fields, end_fields}
+use Rattle.text_history.specs.declared.format.Format.{Format}
+use Rattle.text_history.specs.declared.format.Format.TheVariants.{One, Two, Three, Four, Five}
+use Rattle.text_history.specs.Trace.{IsEntry, is_reset, is_send, has_line, may_open, title_fields, entry_fields, end_fields}
 use Rattle.text_trace.specs.inside.Stages.{has_fields, with_line, parse_entry, entry_at, Board, within_limits, parse_board, board_at}
 use Rattle.synic_board.specs.Replies.{IsReply}
 

@@ -4,7 +4,7 @@ use Rattle.std.specs.Io.KnownBytes.{Appends}
 use Rattle.text_base.specs.Lines.{lines_of, joined}
 use Rattle.text_base.specs.Fields.{line_of}
 use Rattle.text_driver.specs.Driving.{ReadsNear}
-use Rattle.text_trace.specs.Trace.{IsTrace, Begins}
+use Rattle.text_history.specs.Trace.{IsTrace, Begins}
 use Rattle.text_trace.specs.declared.check.Verdict.{Verdict}
 use Rattle.text_trace.specs.declared.check.Verdict.TheVariants as verdicts
 use Rattle.text_trace.specs.declared.check.CheckEnd.{CheckEnd}

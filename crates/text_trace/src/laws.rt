@@ -4,8 +4,8 @@ ghost use Rattle.std.specs.List.{All};
 ghost use Rattle.synic_board.specs.State.{State};
 ghost use Rattle.synic_board.specs.History.{IsLegal};
 ghost use Rattle.synic_board.specs.declared.history.Entry.{Entry};
-ghost use Rattle.text_trace.specs.Trace.{IsEntry, IsBeginning, IsTrace, trace};
-ghost use Rattle.text_trace.specs.declared.format.Format.{Format};
+ghost use Rattle.text_history.specs.Trace.{IsEntry, IsBeginning, IsTrace, trace};
+ghost use Rattle.text_history.specs.declared.format.Format.{Format};
 ghost use Rattle.text_trace.specs.Verdicts.{FirstIllegal};
 
 /// A text has at most one first wrong line.

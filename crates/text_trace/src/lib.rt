@@ -1,13 +1,9 @@
-//! Traces: the events and replies of a board as a text, and the check of such a text.
+//! The check of traces: whether a text is the trace of a legal history.
 #![tactic(auto)]
 
 mod check;
-mod format;
 mod judge;
 pub mod laws;
-mod print;
 mod stage;
 
 pub use check::{CheckEnd, check_trace};
-pub use format::Format;
-pub use print::{put_entry, put_sparse_trace, put_trace, put_trace_from_image};

@@ -4,19 +4,18 @@ ghost use Rattle.std.specs.Str.{bytes_eq};
 ghost use Rattle.text_base.specs.Fields.{spaced};
 ghost use Rattle.text_lines.specs.Performing.{PerformsLine};
 ghost use Rattle.text_lines.specs.Printing.{reply_fields};
-ghost use Rattle.text_trace.specs.Trace.{end_fields};
+ghost use Rattle.text_history.specs.Trace.{end_fields};
 ghost use Rattle.text_driver.specs.Judging.{Judges};
 ghost use Rattle.text_restore.specs.Taking.{stage_of as image_stage_of};
-ghost use Rattle.text_trace.specs.inside.Stages.{Title, Opening, Over, entry_at, board_at, begins_image, stage_of, count, IsGood, IsWrong, Opens, Reads, HasImage, started, Runs, IsOver};
+ghost use Rattle.text_trace.specs.inside.Stages.{Title, Opening, Over, entry_at, board_at, begins_image, stage_of, count, IsGood, IsWrong, Opens, Reads, HasImage, has_fields, started, Runs, IsOver};
 
-use crate::format::Format;
-use crate::print::put_end;
 use board_terms::{Notices, Ticket};
 use std::alloc::{AllocError, Global};
 use std::mem::replace;
 use synic_board::{Board, OpenFault, Reply};
 use text_base::Fields;
 use text_driver::Taken;
+use text_history::{Format, put_end};
 use text_lines::{open_board, opening_of, perform_event, put_reply, u8_of};
 use text_restore::{Stage as ImageStage, board_of, has_ended, take_line as take_image_line};
 
@@ -309,8 +308,19 @@ fn perform_entry(
 {
     let mut fields = Fields::new(line);
     u8_of(&mut fields)?;
-    if !format.has_fields(&fields) {
+    if !has_fields(format, &fields) {
         return None;
     }
     perform_event(&fields, board, notices, |reply| reply)
+}
+
+/// Whether an event whose line has these fields has a line in this format.
+fn has_fields(format: Format, fields: &Fields<'_>) -> bool
+    ensures { result ≡ has_fields format fields.now }
+{
+    match format {
+        Format::One => fields.after(b"reset").is_none() && fields.after(b"send").is_none(),
+        Format::Two | Format::Three | Format::Four => fields.after(b"send").is_none(),
+        Format::Five => true,
+    }
 }

@@ -2,7 +2,7 @@
 use Rattle.std.specs.Prelude.{◌≡◌, Option, Some, Result, Ok, Err}
 use Rattle.synic_board.specs.declared.board.OpenFault.{OpenFault}
 use Rattle.c_handles.specs.declared.any_board.AnyBoard.{AnyBoard}
-use Rattle.c_handles.specs.declared.any_board.AnyBoard.TheVariants.{Plain, Live}
+use Rattle.c_handles.specs.declared.any_board.AnyBoard.TheVariants.{Plain}
 use Rattle.c_handles.specs.declared.board.BoardWithNotices.{BoardWithNotices}
 
 -- the handle has the board that was opened

@@ -6,9 +6,9 @@ use Rattle.board_threads.specs.declared.script.Setup.{Setup}
 use Rattle.board_threads.specs.declared.settling.Ended.{Ended}
 use Rattle.text_image.specs.Image.{image as image_of}
 use Rattle.text_restore.specs.Images.{IsImage}
-use Rattle.text_trace.specs.Trace.{IsEntry, board_text, format_for, trace_text}
-use Rattle.text_trace.specs.declared.format.Format.{Format}
-use Rattle.text_trace.specs.declared.format.Format.TheVariants.{Three}
+use Rattle.text_history.specs.Trace.{IsEntry, board_text, format_for, trace_text}
+use Rattle.text_history.specs.declared.format.Format.{Format}
+use Rattle.text_history.specs.declared.format.Format.TheVariants.{Three}
 use Rattle.text_crew.specs.Running.{line_pages, opened_format}
 use Rattle.text_crew.specs.declared.outcome.Outcome.{Outcome}
 use Rattle.text_crew.specs.declared.outcome.Outcome.TheVariants as outcomes

@@ -12,9 +12,9 @@ use Rattle.text_lines.specs.Reading.{Fields, take_then, u8_at, parse_event, pars
 use Rattle.text_lines.specs.Sizes.{are_sizes, opened_by}
 use Rattle.text_restore.specs.Restoring as images
 use Rattle.text_restore.specs.Taking.{has_ended, stage_of as image_stage_of}
-use Rattle.text_trace.specs.Trace.{has_line, may_open, may_restore, title_fields, end_fields}
-use Rattle.text_trace.specs.declared.format.Format.{Format}
-use Rattle.text_trace.specs.declared.format.Format.TheVariants.{One, Two, Three, Four, Five}
+use Rattle.text_history.specs.Trace.{has_line, may_open, may_restore, title_fields, end_fields}
+use Rattle.text_history.specs.declared.format.Format.{Format}
+use Rattle.text_history.specs.declared.format.Format.TheVariants.{One, Two, Three, Four, Five}
 use Rattle.text_trace.specs.declared.stage.Stage.{Stage as BoardModel}
 use Rattle.text_trace.specs.declared.stage.Stage.TheVariants as held
 use Rattle.text_trace.specs.declared.stage.Opened.{Opened}

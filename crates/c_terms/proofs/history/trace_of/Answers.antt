@@ -1,9 +1,9 @@
 use Rattle.std.proofs.Common.{inl, List, ◌<◌, ◌^◌, Some, refl, subst, arith, ◌∙◌}
 use Rattle.std.specs.List.{All}
 use Rattle.synic_board.specs.declared.history.Entry.{Entry}
-use Rattle.text_trace.specs.declared.format.Format.TheVariants.{Two}
-use Rattle.text_trace.specs.Trace.{IsEntry, format_for, board_text}
-use Rattle.text_trace.proofs.LawLemmas.{begins-for, trace-is}
+use Rattle.text_history.specs.declared.format.Format.TheVariants.{Two}
+use Rattle.text_history.specs.Trace.{IsEntry, format_for, board_text}
+use Rattle.text_history.proofs.BeginningLemmas.{begins-for, trace-is}
 use Rattle.c_handles.specs.Histories.{start_of}
 use Rattle.c_terms.proofs.history.trace_of.Goals as goal
 

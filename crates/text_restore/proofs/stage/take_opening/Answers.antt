@@ -1,5 +1,5 @@
-use Rattle.std.proofs.Common.{◌≡◌, refl, sym, ap, ◌∙◌, subst}
-use Rattle.text_restore.specs.Restoring.{Stage, Body, Opens, Follows}
+use Rattle.std.proofs.Common.{refl, sym, ap, subst}
+use Rattle.text_restore.specs.Restoring.{Body, Opens, Follows}
 use Rattle.text_restore.proofs.Openings.{within-limits}
 use Rattle.text_restore.proofs.stage.take_opening.Goals as goal
 

@@ -1,10 +1,8 @@
 // The formats of a trace.
 ghost use Rattle.std.specs.Prelude.{◌≡◌};
-ghost use Rattle.text_trace.specs.Trace.{format_for, has_send, may_open, may_restore};
-ghost use Rattle.text_trace.specs.inside.Stages.{has_fields};
+ghost use Rattle.text_history.specs.Trace.{format_for, has_send, may_open, may_restore};
 
 use synic_board::{Entry, Event};
-use text_base::Fields;
 
 /// The formats of a trace, named by its first line. All but format 1 have lines for resets of a
 /// processor, and their last line has the next ticket. Format 3 has an image in place of the board
@@ -31,20 +29,9 @@ impl Format {
         }
     }
 
-    /// Whether an event whose line has these fields has a line in this format.
-    pub(crate) fn has_fields(self, fields: &Fields<'_>) -> bool
-        ensures { result ≡ has_fields self fields.now }
-    {
-        match self {
-            Format::One => fields.after(b"reset").is_none() && fields.after(b"send").is_none(),
-            Format::Two | Format::Three | Format::Four => fields.after(b"send").is_none(),
-            Format::Five => true,
-        }
-    }
-
     /// Whether the board line of this format may open a board with these pages, of which a sparse
     /// one has none.
-    pub(crate) fn may_open(self, pages: Option<u8>) -> bool
+    pub fn may_open(self, pages: Option<u8>) -> bool
         ensures { result ≡ may_open self pages }
     {
         match self {
@@ -56,7 +43,7 @@ impl Format {
     }
 
     /// Whether a trace of this format may begin with an image.
-    pub(crate) fn may_restore(self) -> bool
+    pub fn may_restore(self) -> bool
         ensures { result ≡ may_restore self }
     {
         matches!(self, Format::Three | Format::Five)

@@ -1,15 +1,15 @@
 use Rattle.std.proofs.Common.{◌≡◌, ◌++◌, ℕ, List, OnOk, subst}
-use Rattle.std.specs.Prelude.{None}
+use Rattle.std.specs.Prelude.{Some}
 use Rattle.std.proofs.lemmas.Result.{on_ok_weaker}
-use Rattle.text_trace.specs.declared.format.Format.{Format}
-use Rattle.text_trace.specs.declared.format.Format.TheVariants.{Four}
-use Rattle.text_trace.specs.Trace.{board_text, trace_text}
-use Rattle.text_trace.proofs.PrintLemmas.{trace-parts, four-all, all-written}
-use Rattle.text_trace.proofs.print.put_sparse_trace.Goals as goal
+use Rattle.text_history.specs.declared.format.Format.{Format}
+use Rattle.text_history.specs.declared.format.Format.TheVariants.{Two}
+use Rattle.text_history.specs.Trace.{board_text, trace_text}
+use Rattle.text_history.proofs.PrintLemmas.{trace-parts, two-all, all-written}
+use Rattle.text_history.proofs.print.put_trace.Goals as goal
 
 pub returns-clause-written : goal.returns-clause-written
 returns-clause-written c =
-    let beginning : List ℕ = board_text c.args.processors None c.args.first_ticket in
+    let beginning : List ℕ = board_text c.args.processors (Some c.args.pages) c.args.first_ticket in
     let history = c.args.history.now in
     let next = c.args.next_ticket in
     subst (λ (f : Format). OnOk c.put_rest.result
@@ -22,4 +22,4 @@ returns-clause-written c =
 
 pub returns-clause-fits : goal.returns-clause-fits
 returns-clause-fits c =
-    on_ok_weaker c.put_rest.result (λ fits. all-written Four four-all c.args.history.now fits) c.put_rest.ensures.fits
+    on_ok_weaker c.put_rest.result (λ fits. all-written Two two-all c.args.history.now fits) c.put_rest.ensures.fits

@@ -12,8 +12,8 @@ use Rattle.text_lines.specs.Items.{Opening, item_fields}
 use Rattle.text_lines.specs.Printing.{text_of, reply_fields}
 use Rattle.text_lines.specs.Sizes.{AreBoardSizes, opened_by}
 use Rattle.text_restore.specs.Images.{IsImage}
-use Rattle.text_trace.specs.declared.format.Format.{Format}
-use Rattle.text_trace.specs.declared.format.Format.TheVariants.{One, Two, Three, Four, Five}
+use Rattle.text_history.specs.declared.format.Format.{Format}
+use Rattle.text_history.specs.declared.format.Format.TheVariants.{One, Two, Three, Four, Five}
 
 abbrev pub is_reset : Event → Bool
 is_reset (Reset vp) = true

@@ -9,9 +9,9 @@ use Rattle.synic_board.specs.declared.event.Event.{Event}
 use Rattle.synic_board.specs.declared.history.Entry.{Entry}
 use Rattle.text_lines.specs.Printing.{text_of}
 use Rattle.text_lines.proofs.PrintLemmas.{text_of-append}
-use Rattle.text_trace.specs.declared.format.Format.{Format}
-use Rattle.text_trace.specs.declared.format.Format.TheVariants.{Two, Three, Four, Five}
-use Rattle.text_trace.specs.Trace.{IsEntry, is_send, has_send, has_line, format_for, title_fields, end_fields, history_lines, rest_lines, trace_text}
+use Rattle.text_history.specs.declared.format.Format.{Format}
+use Rattle.text_history.specs.declared.format.Format.TheVariants.{Two, Three, Four, Five}
+use Rattle.text_history.specs.Trace.{IsEntry, is_send, has_send, has_line, format_for, title_fields, end_fields, history_lines, rest_lines, trace_text}
 
 -- one more entry
 pub history-step : (history : List Entry) (i : ℕ) (e : Entry) (so_far next out : List ℕ) → i < length history

@@ -1,7 +1,7 @@
 use Rattle.std.proofs.Common.{◌≡◌, ◌++◌, ◌∷◌, [], OnOk, rules}
 use Rattle.std.proofs.lemmas.Result.{on_ok_weaker}
-use Rattle.text_trace.proofs.PrintLemmas.{rest-parts}
-use Rattle.text_trace.proofs.print.put_rest.Goals as goal
+use Rattle.text_history.proofs.PrintLemmas.{rest-parts}
+use Rattle.text_history.proofs.print.put_rest.Goals as goal
 
 pub returns-clause-written : goal.returns-clause-written
 returns-clause-written c =

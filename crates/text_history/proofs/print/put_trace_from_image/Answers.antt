@@ -1,10 +1,10 @@
 use Rattle.std.proofs.Common.{◌≡◌, ◌++◌, ℕ, List, OnOk, subst}
 use Rattle.std.proofs.lemmas.Result.{on_ok_weaker}
-use Rattle.text_trace.specs.declared.format.Format.{Format}
-use Rattle.text_trace.specs.declared.format.Format.TheVariants.{Three}
-use Rattle.text_trace.specs.Trace.{trace_text}
-use Rattle.text_trace.proofs.PrintLemmas.{trace-parts, three-all, all-written}
-use Rattle.text_trace.proofs.print.put_trace_from_image.Goals as goal
+use Rattle.text_history.specs.declared.format.Format.{Format}
+use Rattle.text_history.specs.declared.format.Format.TheVariants.{Three}
+use Rattle.text_history.specs.Trace.{trace_text}
+use Rattle.text_history.proofs.PrintLemmas.{trace-parts, three-all, all-written}
+use Rattle.text_history.proofs.print.put_trace_from_image.Goals as goal
 
 pub returns-clause-written : goal.returns-clause-written
 returns-clause-written c =

@@ -1,9 +1,9 @@
 use Rattle.std.proofs.Common.{◌≡◌, ◌++◌, take, drop}
 use Rattle.std.specs.List.{All}
 use Rattle.text_lines.specs.Printing.{text_of}
-use Rattle.text_trace.specs.declared.format.Format.TheVariants.{Five}
-use Rattle.text_trace.specs.Trace.{IsEntry, history_lines}
-use Rattle.text_trace.proofs.print.put_history.Given as goal
+use Rattle.text_history.specs.declared.format.Format.TheVariants.{Five}
+use Rattle.text_history.specs.Trace.{IsEntry, history_lines}
+use Rattle.text_history.proofs.print.put_history.Given as goal
 
 abbrev pub invariant-loop-entry : goal.invariant-loop-entry
 invariant-loop-entry l =

@@ -4,7 +4,7 @@ ghost use Rattle.std.specs.List.{All};
 ghost use Rattle.text_base.specs.Fields.{spaced, line_of};
 ghost use Rattle.text_lines.specs.Items.{pages_field};
 ghost use Rattle.text_lines.specs.Printing.{text_of};
-ghost use Rattle.text_trace.specs.Trace.{IsEntry, title_fields, end_fields, history_lines, rest_lines, board_text, trace_text, format_for};
+ghost use Rattle.text_history.specs.Trace.{IsEntry, title_fields, end_fields, history_lines, rest_lines, board_text, trace_text, format_for};
 
 use crate::format::Format;
 use board_terms::Ticket;
@@ -159,7 +159,7 @@ pub fn put_entry(out: &mut Vec<u8>, entry: &Entry) -> Result<(), AllocError>
 }
 
 /// Appends the end line, without a line feed: the number of entries, and the next ticket.
-pub(crate) fn put_end(
+pub fn put_end(
     out: &mut Vec<u8>,
     format: Format,
     entries: u64,

@@ -3,10 +3,10 @@ use Rattle.std.specs.List.{All}
 use Rattle.std.proofs.lemmas.List.{take_all}
 use Rattle.std.proofs.lemmas.List.Elements.{All-more}
 use Rattle.synic_board.specs.declared.history.Entry.{Entry}
-use Rattle.text_trace.specs.declared.format.Format.TheVariants.{Five}
-use Rattle.text_trace.specs.Trace.{IsEntry}
-use Rattle.text_trace.proofs.PrintLemmas.{history-step}
-use Rattle.text_trace.proofs.print.put_history.Goals as goal
+use Rattle.text_history.specs.declared.format.Format.TheVariants.{Five}
+use Rattle.text_history.specs.Trace.{IsEntry}
+use Rattle.text_history.proofs.PrintLemmas.{history-step}
+use Rattle.text_history.proofs.print.put_history.Goals as goal
 
 pub loop-entry-preserved : goal.loop-entry-preserved
 loop-entry-preserved c =
