@@ -10,7 +10,7 @@ ghost use Rattle.board_threads.specs.Sweeps.{is_absorb, is_refusal, sweep_in};
 ghost use Rattle.board_threads.specs.Settling.{IsSettled, AreAbsorbed, only_raises, calls_held, calls_given};
 
 use crate::actor::{Actor, CallFault};
-use crate::opening::{are_word_sizes, number_all};
+use crate::opening::{are_word_sizes, open_words};
 use crate::origin::Origin;
 use crate::recorded::Recorded;
 use crate::settling::{Ended, SettleFault, split_all};
@@ -83,18 +83,8 @@ impl<S: Origin> RecordedBoard<S> {
         ensures actors { IfOk result (λ r. r.1.items ≡ map (new_actor r.0.name) (range_with_len 0 actors)) }
         ensures lines { IfOk result (λ r. r.2.items ≡ replicate lines (token r.0.name [])) }
     {
-        let processors = board.processors();
-        if !are_word_sizes(processors, actors, lines) {
-            return Err(OpenFault::BadSize);
-        }
+        let (words, actors, lines) = open_words(alloc, board.processors(), actors, lines)?;
         let Ok(recorded) = Recorded::new(alloc, board) else {
-            return Err(OpenFault::Memory);
-        };
-        let Ok((words, sweepers, lines)) = PostedWords::open(alloc, processors, actors, lines)
-        else {
-            return Err(OpenFault::Memory);
-        };
-        let Ok(actors) = number_all(alloc, actors, sweepers) else {
             return Err(OpenFault::Memory);
         };
         let board = RecordedBoard {

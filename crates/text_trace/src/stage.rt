@@ -1,5 +1,5 @@
 // The stages of a trace's check, and its board.
-ghost use Rattle.std.specs.Prelude.{◌≡◌, ◌<◌, ◌-◌, ◌^◌, [], IfOk};
+ghost use Rattle.std.specs.Prelude.{◌≡◌, ◌<◌, ◌-◌, ◌^◌, [], IfOk, None};
 ghost use Rattle.std.specs.Str.{bytes_eq};
 ghost use Rattle.text_base.specs.Fields.{spaced};
 ghost use Rattle.text_lines.specs.Performing.{PerformsLine};
@@ -7,7 +7,7 @@ ghost use Rattle.text_lines.specs.Printing.{reply_fields};
 ghost use Rattle.text_history.specs.Trace.{end_fields};
 ghost use Rattle.text_driver.specs.Judging.{Judges};
 ghost use Rattle.text_restore.specs.Taking.{stage_of as image_stage_of};
-ghost use Rattle.text_trace.specs.inside.Stages.{Title, Opening, Over, entry_at, board_at, begins_image, stage_of, count, IsGood, IsWrong, Opens, Reads, HasImage, has_fields, started, Runs, IsOver};
+ghost use Rattle.text_trace.specs.inside.Stages.{Title, Opening, Running, Over, entry_at, board_at, begins_image, stage_of, count, IsGood, IsWrong, Opens, Reads, HasImage, has_fields, started, Runs, IsOver};
 
 use board_terms::{Notices, Ticket};
 use std::alloc::{AllocError, Global};
@@ -110,19 +110,20 @@ fn take_title(stage: &mut Stage, line: &[u8]) -> Taken<()>
     requires { stage_of stage.old ≡ Title }
     ensures { Judges IsGood IsWrong result (stage_of stage.old) (stage_of stage.new) line.now [] }
 {
-    *stage = if line == b"trace 1".as_slice() {
-        Stage::Opening(Format::One)
+    let format = if line == b"trace 1".as_slice() {
+        Format::One
     } else if line == b"trace 2".as_slice() {
-        Stage::Opening(Format::Two)
+        Format::Two
     } else if line == b"trace 3".as_slice() {
-        Stage::Opening(Format::Three)
+        Format::Three
     } else if line == b"trace 4".as_slice() {
-        Stage::Opening(Format::Four)
+        Format::Four
     } else if line == b"trace 5".as_slice() {
-        Stage::Opening(Format::Five)
+        Format::Five
     } else {
         return Taken::Wrong(());
     };
+    set(stage, Stage::Opening(format));
     Taken::Good
 }
 
@@ -133,17 +134,12 @@ fn take_opening(alloc: Global, stage: &mut Stage, format: Format, line: &[u8]) -
     ensures { Judges IsGood IsWrong result (stage_of stage.old) (stage_of stage.new) line.now [] }
 {
     if begins_image(format, line) {
-        *stage = Stage::Image(format, ImageStage::Titled);
+        set(stage, Stage::Image(format, ImageStage::Titled));
         return Taken::Good;
     }
     match open(alloc, format, line) {
         Opened::Board(board) => {
-            *stage = Stage::Running {
-                format,
-                board,
-                entries: 0,
-                due: None,
-            };
+            set(stage, begun(format, board));
             Taken::Good
         }
         Opened::Wrong => Taken::Wrong(()),
@@ -182,12 +178,7 @@ fn start(stage: &mut Stage)
     let Some(board) = board_of(image) else {
         unreachable!()
     };
-    *stage = Stage::Running {
-        format,
-        board,
-        entries: 0,
-        due: None,
-    };
+    set(stage, begun(format, board));
 }
 
 /// Ends the trace after that many entries.
@@ -195,7 +186,26 @@ fn start(stage: &mut Stage)
 fn close(stage: &mut Stage, entries: u64)
     ensures { stage_of stage.new ≡ Over entries }
 {
-    *stage = Stage::Over(entries);
+    set(stage, Stage::Over(entries));
+}
+
+/// The stage in which a history begins on this board.
+fn begun(format: Format, board: Board) -> Stage
+    ensures { stage_of result ≡ Running format board.state 0 None }
+{
+    Stage::Running {
+        format,
+        board,
+        entries: 0,
+        due: None,
+    }
+}
+
+/// Replaces the stage. Only here is one dropped, since what drops a board takes long to prove.
+fn set(stage: &mut Stage, next: Stage)
+    ensures { stage.new ≡ next }
+{
+    *stage = next;
 }
 
 /// The number of entries of a complete trace.
