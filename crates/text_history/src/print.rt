@@ -13,9 +13,8 @@ use synic_board::Entry;
 use text_base::put_decimal;
 use text_lines::{put_event, put_reply};
 
-/// Appends the trace of a history, in format 2, or in format 5 if it has a send, to `out`: for a
-/// board of that many processors and
-/// pages, with its first ticket, and the next ticket after the history.
+/// Appends the trace of a history, in format 2, or in format 5 if it has a send, to `out`: for a board
+/// of that many processors and pages, with its first ticket, and the next ticket after the history.
 pub fn put_trace(
     out: &mut Vec<u8>,
     processors: u8,
@@ -36,9 +35,8 @@ pub fn put_trace(
     put_rest(out, format, history, next_ticket)
 }
 
-/// Appends the trace of a history, in format 4, or in format 5 if it has a send, to `out`: for a
-/// sparse board of that many
-/// processors, with its first ticket, and the next ticket after the history.
+/// Appends the trace of a history, in format 4, or in format 5 if it has a send, to `out`: for a sparse
+/// board of that many processors, with its first ticket, and the next ticket after the history.
 pub fn put_sparse_trace(
     out: &mut Vec<u8>,
     processors: u8,
@@ -58,9 +56,8 @@ pub fn put_sparse_trace(
     put_rest(out, format, history, next_ticket)
 }
 
-/// Appends the trace of a history, in format 3, or in format 5 if it has a send, to `out`: for a
-/// board whose state before the history
-/// has this image, with the next ticket after the history.
+/// Appends the trace of a history, in format 3, or in format 5 if it has a send, to `out`: for a board
+/// whose state before the history has this image, with the next ticket after the history.
 pub fn put_trace_from_image(
     out: &mut Vec<u8>,
     image: &[u8],
@@ -158,7 +155,8 @@ pub fn put_entry(out: &mut Vec<u8>, entry: &Entry) -> Result<(), AllocError>
     put_reply(out, entry.reply.copy())
 }
 
-/// Appends the end line, without a line feed: the number of entries, and the next ticket.
+/// Appends the end line, without a line feed: the number of entries, and in all formats but the first
+/// the next ticket.
 pub fn put_end(
     out: &mut Vec<u8>,
     format: Format,

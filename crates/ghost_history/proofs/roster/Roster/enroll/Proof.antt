@@ -38,7 +38,7 @@ enroll_spec 𝓤 𝓛 𝓜 𝓡 wired =
     (λ l. pass_all ! refl ((tt, tt), ((tt, record { fits = are.1.0.1 }), tt)) $
     opens ! tt Rr b o (λ ts. move ! (1 ∷ []) $ fsplit ! $ move ! (1 ∷ []) $
     use1 𝓛 (later (some (λ (j : ℕ). ‵ (roster row_coded.code γ 0 (h.rows ++ u ∷ [])) ⊛ ‵ (held γ u j))))
-    (via 𝓤 _ (joins 𝓛 row_coded γ h.rows 0 u) (basic 𝓛 (ex 𝓤 (Joined 𝓛 row_coded γ 0 h.rows u)))) $ await ! tt $
+    (via 𝓤 _ (joins 𝓛 row_coded γ (h.rows) 0 u) (basic 𝓛 (ex 𝓤 (Joined 𝓛 row_coded γ 0 h.rows u)))) $ await ! tt $
     pick ! (λ j. split ! $
     let h' : Rr.Denot =
     record { marker = h.marker; name = γ; rows = h.rows ++ u ∷ [] } in let p : Pr.Denot =
