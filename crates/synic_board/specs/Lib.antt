@@ -8,6 +8,7 @@ pub mod Delivery
 pub mod Stores
 pub mod Posts
 pub mod Timers
+pub mod Alarm
 pub mod Registers
 pub mod Suspending
 pub mod Resetting

@@ -7,6 +7,7 @@ ghost use Rattle.synic_board.specs.Sound.{IsSound, PayloadFits};
 ghost use Rattle.synic_board.specs.Buffers.{HasBuffers};
 
 mod absorbing;
+mod alarm;
 mod delivery;
 mod interrupts;
 mod overlays;

@@ -1,0 +1,4 @@
+mod Alarms
+mod Firsts
+mod LateTimer
+mod Moving
