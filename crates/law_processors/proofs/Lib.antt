@@ -5,3 +5,16 @@ mod Frames
 mod Commuting
 mod Elsewhere
 mod Alike
+mod Isolated
+mod IsolatedEffects
+mod Isolating
+mod Shared
+mod Agreeing
+mod AgreeingEffects
+mod AgreeingTickets
+mod AgreeingTicks
+mod AgreeingSteps
+mod AgreeingPorts
+mod AgreeingSpace
+mod AgreeingEvents
+mod Exchanging

@@ -1,2 +1,5 @@
 pub mod Apart
 pub mod Elsewhere
+pub mod Isolation
+pub mod Influence
+pub mod Exchange

@@ -1,10 +1,16 @@
 // Theorems about events of different processors.
-ghost use Rattle.std.specs.Prelude.{◌≡◌, ◌≢◌, ℕ, true, []};
+ghost use Rattle.std.specs.Prelude.{◌≡◌, ◌≢◌, ℕ, true, false, List, []};
+ghost use Rattle.std.specs.List.{All};
 ghost use Rattle.synic_board.specs.declared.event.Event.{Event};
 ghost use Rattle.synic_board.specs.State.{State};
+ghost use Rattle.synic_board.specs.Sound.{IsSound, PayloadFits};
 ghost use Rattle.synic_board.specs.Step.{step};
+ghost use Rattle.arrayvec.specs.ArrayVec.{ArrayVec};
 ghost use Rattle.law_processors.specs.Apart.{IsOwn, Commute, LeavesOthers};
 ghost use Rattle.law_processors.specs.Elsewhere.{idle, is_apics_own, AnswerAlike};
+ghost use Rattle.law_processors.specs.Isolation.{touches, LeavesAlone, Untouched, RunsAlone, KeepsShared, StoresAlone, NoneIsVisible};
+ghost use Rattle.law_processors.specs.Influence.{Agree, ConcernsAlone, ActsAlike};
+ghost use Rattle.law_processors.specs.Exchange.{AreConfined, EndAlike};
 
 /// An event of one processor changes no other processor's local APIC, registers or suspension, and no
 /// page, port, queue, slot or timer, and not the time.
@@ -31,4 +37,43 @@ pub fn boards_that_differ_in_local_apics_answer_alike()
 pub fn a_local_apics_own_events_change_nothing_else()
     ensures { (s : State) (event : Event) → is_apics_own event ≡ true → (idle (step s event).0 ≡ idle s)
         × ((step s event).2 ≡ []) }
+{}
+
+/// An event leaves each processor alone that it does not touch: all that the processor has is unchanged, and no notice
+/// of the event names it.
+pub fn an_event_leaves_alone_what_it_does_not_touch()
+    ensures { (s : State) (event : Event) (q : ℕ) → IsSound s → touches s event q ≡ false
+        → LeavesAlone s event q }
+{}
+
+/// A list of events leaves each processor alone that none of them touches in the state where it occurs.
+pub fn a_run_leaves_alone_what_it_does_not_touch()
+    ensures { (s : State) (events : List Event) (q : ℕ) → All PayloadFits events → IsSound s
+        → Untouched s events q → RunsAlone s events q }
+{}
+
+/// What an event that concerns one processor alone does depends on this processor and on what processors share:
+/// in two states that agree in these it has the same reply and notices, and leaves the same of the processor.
+pub fn an_event_depends_on_its_processor_alone()
+    ensures { (q : ℕ) (s t : State) (event : Event) → Agree q s t → ConcernsAlone s event q
+        → ConcernsAlone t event q → ActsAlike q s t event }
+{}
+
+/// An event of processor p and one of processor q, each of which concerns its own processor alone and leaves what
+/// processors share, in whichever order they come, can be exchanged: each has the same reply and notices, and all
+/// processors and what they share end the same.
+pub fn events_confined_to_two_processors_can_be_exchanged()
+    ensures { (p q : ℕ) (s : State) (e f : Event) → p ≢ q → AreConfined p q s e f → EndAlike s e f }
+{}
+
+/// What processors share: only a tick moves the clock, only opening and closing change the ports, only a post, a
+/// tick and a write of a timer take tickets, and only a store changes guest pages.
+pub fn shared_parts_change_only_by_their_events()
+    ensures { (s : State) (event : Event) → KeepsShared s event }
+{}
+
+/// A store where a guest sees no overlay changes guest pages alone, and emits nothing.
+pub fn a_store_outside_overlays_changes_guest_pages_alone()
+    ensures { (s : State) (address : ℕ) (bytes : ArrayVec ℕ) → NoneIsVisible s address
+        → StoresAlone s address bytes }
 {}
