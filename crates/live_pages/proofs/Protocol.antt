@@ -7,9 +7,8 @@ use Rattle.live_pages.specs.Protocol.{idle, cleared, ending, post, look, skip, m
 abbrev pub world : Bool → Bool → Bool → ℕ → HostAt → GuestAt → World
 world o p b n h g = record { occupied = o; pending = p; buffered = b; queued = n; host = h; guest = g }
 
--- a store in the buffer is that of a guest that clears an occupied slot; and while the host rests and a message
--- waits, the guest
--- has seen MessagePending, or it is set where the guest will see it
+-- a store in the buffer is that of a guest that clears an occupied slot; and while the host rests and a message waits,
+-- the guest has seen MessagePending, or it is set where the guest will see it
 abbrev pub kept : World → Bool
 kept w =
     (not w.buffered || (w.occupied && guest_is w.guest cleared))

@@ -34,6 +34,11 @@ abbrev pub IsUpdate : ℕ → ℕ → List Access → List Access → Type 0
 IsUpdate w value log now =
     (found : ℕ) × (now ≡ (if found == value then Load w found ∷ log else Store w value ∷ Load w found ∷ log))
 
+-- a word gets a value: a store of it, after one of another value that the host found there if it found one
+abbrev pub IsPut : ℕ → ℕ → List Access → List Access → Type 0
+IsPut w value log now =
+    (now ≡ Store w value ∷ log) ⊎ ((found : ℕ) × (now ≡ Store w value ∷ Store w found ∷ log))
+
 -- an atomic or of MessagePending, after a load that found the slot occupied and not marked
 abbrev pub IsMark : ℕ → ℕ → List Access → List Access → Type 0
 IsMark slot found log now =

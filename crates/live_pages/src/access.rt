@@ -1,4 +1,4 @@
-// The host's accesses to a page.
+// The host's accesses to a page, and the turns of host and guest.
 
 /// An access of the host to one word of a page. Ghost.
 pub enum Access {
@@ -8,4 +8,12 @@ pub enum Access {
     FetchOr { word: u64, mask: u64, found: u64 },
     /// A store.
     Store { word: u64, value: u64 },
+}
+
+/// A turn of the host or of the guest. Ghost.
+pub enum Turn {
+    /// An access of the host.
+    ByHost(Access),
+    /// A write of a value to a word, by the guest or a device of it.
+    ByGuest { word: u64, value: u64 },
 }

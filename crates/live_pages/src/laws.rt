@@ -1,12 +1,18 @@
 // Laws of the words of a page, and of the protocol of a slot.
-ghost use Rattle.live_pages.specs.Traces.{AnybodyMayWrite, ASignalledFlagStays};
+ghost use Rattle.live_pages.specs.Traces.{AnybodyMayWrite, AGuestThatWritesNothingIsNotSeen, ASignalledFlagStays};
 ghost use Rattle.live_pages.specs.Protocol.{NoWakeUpIsMissed, EachPrecautionIsNeeded};
 ghost use Rattle.live_pages.specs.Headers as headers;
+ghost use Rattle.std.specs.Prelude.{ℕ};
 
 /// Whatever anybody else writes to a page, the rule of its words holds: the words are what some
 /// history leaves, in which the accesses of the host are those of its log.
 pub fn anybody_may_write()
     ensures { AnybodyMayWrite }
+{}
+
+/// If the guest has written nothing, each access of the host found what the host itself had left.
+pub fn a_guest_that_writes_nothing_is_not_seen()
+    ensures { AGuestThatWritesNothingIsNotSeen }
 {}
 
 /// A bit that an atomic or of the host set stays set in memory until another write clears it.

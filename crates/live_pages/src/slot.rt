@@ -50,7 +50,8 @@ impl LivePage {
     /// returns is a second look at the type, after MessagePending is set.
     pub fn probe(&mut self, slot: usize) -> Probe
         requires { slot < 16 }
-        ensures { IsProbe slot self.old self.new result }
+        ensures name { self.new.name ≡ self.old.name }
+        ensures accesses { IsProbe slot self.old.log self.new.log result }
     {
         let first = self.load(32 * slot);
         if is_empty(first) {
@@ -71,7 +72,8 @@ impl LivePage {
     /// word, with the type. So a guest that finds the type finds the whole message.
     pub fn fill(&mut self, slot: usize, image: &[u64; SLOT_WORDS])
         requires { slot < 16 }
-        ensures { IsFill slot image.now self.old self.new }
+        ensures name { self.new.name ≡ self.old.name }
+        ensures accesses { IsFill slot image.now self.old.log self.new.log }
     {
         for k in 0..SLOT_WORDS - 1 {
             self.update(32 * slot + (k + 1), image[k + 1]);
@@ -83,15 +85,17 @@ impl LivePage {
     /// if the slot is empty.
     pub fn attempt(&mut self, slot: usize, image: &[u64; SLOT_WORDS]) -> Attempt
         requires { slot < 16 }
-        ensures accesses { IsAttempt slot image.now self.old self.new result }
-        ensures refines { Refines slot image.now self.old self.new result }
+        ensures name { self.new.name ≡ self.old.name }
+        ensures accesses { IsAttempt slot image.now self.old.log self.new.log result }
+        ensures refines { Refines slot image.now self.old.log self.new.log result }
     {
         self.try_slot(slot, image)
     }
 
     fn try_slot(&mut self, slot: usize, image: &[u64; SLOT_WORDS]) -> Attempt
         requires { slot < 16 }
-        ensures { IsAttempt slot image.now self.old self.new result }
+        ensures name { self.new.name ≡ self.old.name }
+        ensures accesses { IsAttempt slot image.now self.old.log self.new.log result }
     {
         match self.probe(slot) {
             Probe::Empty { .. } => {
