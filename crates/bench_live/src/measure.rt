@@ -1,8 +1,7 @@
 // Running and timing a workload.
 use crate::workload::{Workload, is_done, setup};
 use bench_cli::Fault;
-use board_terms::Notices;
-use live_board::LiveBoard;
+use live_board::{LiveBoard, LiveNotices};
 use std::alloc::AllocError;
 use std::time::Instant;
 use synic_board::Board;
@@ -28,43 +27,33 @@ impl Measured {
     }
 }
 
-/// The buffers for the notices of an event.
-#[derive(Drop)]
-struct Lists {
-    notices: Notices,
-    late: Notices,
-}
-
 /// Performs that many events of a workload.
 pub(crate) fn measure(
     rt: &HostRuntime,
     workload: Workload,
     events: u32,
 ) -> Result<Measured, Fault> {
-    let mut lists = Lists {
-        notices: Notices::open(rt.alloc())?,
-        late: Notices::open(rt.alloc())?,
-    };
+    let mut notices = LiveNotices::open(rt.alloc())?;
     let board = Board::open(rt.alloc(), PROCESSORS, PAGES, 0)?;
-    let Ok(mut live) = LiveBoard::open(rt.alloc(), board) else {
+    let Ok((mut live, _)) = LiveBoard::open(rt.alloc(), board) else {
         return Err(Fault::from(AllocError));
     };
     for event in &setup() {
-        let _ = live.perform(event, &mut lists.notices, &mut lists.late);
+        let _ = live.perform(event, &mut notices);
     }
-    timed(rt, &mut live, &mut lists, workload, events)
+    timed(rt, &mut live, &mut notices, workload, events)
 }
 
 /// The same, on a borrowed board.
 fn timed(
     rt: &HostRuntime,
     live: &mut LiveBoard,
-    lists: &mut Lists,
+    notices: &mut LiveNotices,
     workload: Workload,
     events: u32,
 ) -> Result<Measured, Fault> {
     let start = Instant::now(rt)?;
-    let done = perform_all(live, lists, workload, events);
+    let done = perform_all(live, notices, workload, events);
     let elapsed = start.elapsed(rt)?;
     let seconds = elapsed.as_secs().saturating_mul(1_000_000_000);
     Ok(Measured {
@@ -75,10 +64,15 @@ fn timed(
 
 /// The timed part.
 #[inline(never)]
-fn perform_all(live: &mut LiveBoard, lists: &mut Lists, workload: Workload, events: u32) -> u64 {
+fn perform_all(
+    live: &mut LiveBoard,
+    notices: &mut LiveNotices,
+    workload: Workload,
+    events: u32,
+) -> u64 {
     let mut done = 0u64;
     for turn in 0..events {
-        let reply = workload.perform(turn, live, &mut lists.notices, &mut lists.late);
+        let reply = workload.perform(turn, live, notices);
         if is_done(reply) {
             done = done.wrapping_add(1);
         }

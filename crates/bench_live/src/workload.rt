@@ -1,6 +1,6 @@
 // The events of the workloads.
-use board_terms::{Notices, PortShape};
-use live_board::LiveBoard;
+use board_terms::PortShape;
+use live_board::{LiveBoard, LiveNotices};
 use synic_board::msr::{EOM, SCONTROL, SIEFP, SIMP, SINT0, STIMER0_CONFIG, STIMER0_COUNT};
 use synic_board::{Event, Reply};
 
@@ -71,8 +71,7 @@ impl Workload {
         self,
         turn: u32,
         live: &mut LiveBoard,
-        notices: &mut Notices,
-        late: &mut Notices,
+        notices: &mut LiveNotices,
     ) -> Reply {
         match self {
             Workload::Signals => {
@@ -80,18 +79,18 @@ impl Workload {
                     port: PORT,
                     flag: (turn % u32::from(FLAGS)) as u16,
                 };
-                live.perform(&event, notices, late).0
+                live.perform(&event, notices).0
             }
-            Workload::Eoms => live.perform(&write(EOM, 0), notices, late).0,
+            Workload::Eoms => live.perform(&write(EOM, 0), notices).0,
             Workload::Counts => {
                 let event = write(SHOT_COUNT, FAR + u64::from(turn % 1024));
-                live.perform(&event, notices, late).0
+                live.perform(&event, notices).0
             }
             Workload::Ticks => {
                 let event = Event::Tick {
                     moment: u64::from(turn) + 1,
                 };
-                live.perform(&event, notices, late).0
+                live.perform(&event, notices).0
             }
         }
     }

@@ -25,7 +25,8 @@ use Rattle.synic_board.specs.Interrupts.{raised}
 use Rattle.synic_board.specs.Posts.{with_flag, flagged, signalled_place, signalled_at, signalled}
 use Rattle.synic_board.specs.Step.{step}
 use Rattle.live_board.specs.Words.{word_of}
-use Rattle.live_board.specs.inside.Parts.{IsStep, signalled_flag, flag_by}
+use Rattle.live_board.specs.inside.Parts.{IsStep}
+use Rattle.live_board.specs.Signals.{signalled_flag, flag_by}
 use Rattle.live_board.proofs.Bytes.{or-one, bit-of}
 use Rattle.live_board.proofs.Signalled.{flags_of, flag-bytes}
 

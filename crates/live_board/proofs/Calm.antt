@@ -35,7 +35,7 @@ use Rattle.synic_board.specs.Stores.{stored_bytes, consumed_in}
 use Rattle.synic_board.specs.Step.{step}
 use Rattle.synic_board.proofs.keeping.Requests.{either}
 use Rattle.synic_regs.proofs.Numbers.{have_their_numbers}
-use Rattle.live_board.specs.Acting.{IsRegisterWrite, none_owed}
+use Rattle.live_board.specs.Acting.{IsRegisterWrite}
 use Rattle.live_board.specs.Live.{LiveModel, IsQuietly}
 use Rattle.live_board.specs.Timers.{is_timer_register, is_timer_write, timer_of}
 use Rattle.live_board.specs.inside.Kinds.{IsWriteTo, IsTimerWriteBy, is_quiet, is_quiet_register, is_eom, is_eom_register, eom_of, accessed_at}
@@ -303,17 +303,18 @@ quiet-other n apart none = by (register_of n) refl none
     by (Some (TimerCount k)) is t = absurd (cc)
 
 pub quiet-written : (o : Option Register) (p : ℕ) (old : LiveModel) (event : Event) (now : LiveModel) (reply : Reply)
-    (notices : List Notice) → option_map_or is_quiet_register o true ≡ true → IsQuietly old event now reply notices
-    → IsRegisterWrite o p old event now reply none_owed notices
-quiet-written None p old event now reply notices quiet h = (h, refl)
-quiet-written (Some ReferenceCounter) p old event now reply notices quiet h = (h, refl)
-quiet-written (Some Eoi) p old event now reply notices quiet h = (h, refl)
-quiet-written (Some Tpr) p old event now reply notices quiet h = (h, refl)
-quiet-written (Some Control) p old event now reply notices quiet h = (h, refl)
-quiet-written (Some Version) p old event now reply notices quiet h = (h, refl)
-quiet-written (Some Sief) p old event now reply notices quiet h = (h, refl)
-quiet-written (Some Sim) p old event now reply notices quiet h = (h, refl)
-quiet-written (Some Eom) p old event now reply notices quiet h = absurd (cc)
-quiet-written (Some (Source k)) p old event now reply notices quiet h = (h, refl)
-quiet-written (Some (TimerConfig k)) p old event now reply notices quiet h = absurd (cc)
-quiet-written (Some (TimerCount k)) p old event now reply notices quiet h = absurd (cc)
+    (notices : List Notice) → option_map_or is_quiet_register o true ≡ true → (o ≡ Some Sim → ⊥) → (o ≡ Some Sief → ⊥)
+    → IsQuietly old event now reply notices
+    → IsRegisterWrite o p old event now reply 0 notices
+quiet-written None p old event now reply notices quiet sim sief h = (h, refl)
+quiet-written (Some ReferenceCounter) p old event now reply notices quiet sim sief h = (h, refl)
+quiet-written (Some Eoi) p old event now reply notices quiet sim sief h = (h, refl)
+quiet-written (Some Tpr) p old event now reply notices quiet sim sief h = (h, refl)
+quiet-written (Some Control) p old event now reply notices quiet sim sief h = (h, refl)
+quiet-written (Some Version) p old event now reply notices quiet sim sief h = (h, refl)
+quiet-written (Some Sief) p old event now reply notices quiet sim sief h = absurd (sief refl)
+quiet-written (Some Sim) p old event now reply notices quiet sim sief h = absurd (sim refl)
+quiet-written (Some Eom) p old event now reply notices quiet sim sief h = absurd (cc)
+quiet-written (Some (Source k)) p old event now reply notices quiet sim sief h = (h, refl)
+quiet-written (Some (TimerConfig k)) p old event now reply notices quiet sim sief h = absurd (cc)
+quiet-written (Some (TimerCount k)) p old event now reply notices quiet sim sief h = absurd (cc)

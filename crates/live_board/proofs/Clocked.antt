@@ -1,5 +1,5 @@
 -- A tick of a live board.
-use Rattle.std.proofs.Common.{◌≡◌, ◌≢◌, ◌⊎◌, inl, inr, ℕ, zero, suc, ◌+◌, ◌*◌, ◌/◌, ◌%◌, ◌<◌, ◌≤◌, Bool, true, false, nat_lt, List, [], ◌∷◌, ◌++◌, length, get_or, replicate, refl, sym, ap, ◌∙◌, subst, arith, append-nil}
+use Rattle.std.proofs.Common.{◌≡◌, ◌≢◌, ◌⊎◌, inl, inr, ℕ, zero, suc, ◌+◌, ◌*◌, ◌/◌, ◌%◌, ◌<◌, ◌≤◌, Bool, true, false, nat_lt, List, [], ◌∷◌, ◌++◌, length, get_or, refl, sym, ap, ◌∙◌, subst, arith, append-nil}
 use Rattle.std.specs.Prelude.{◌==◌}
 use Rattle.std.proofs.lemmas.Bool.{cases_eq}
 use Rattle.std.proofs.lemmas.Bool.Decides.{nat_tests}
@@ -7,6 +7,7 @@ use Rattle.board_terms.specs.declared.notices.Notice.{Notice}
 use Rattle.synic_board.specs.declared.event.Event.{Event}
 use Rattle.synic_board.specs.declared.event.Event.TheVariants.{Tick}
 use Rattle.synic_board.specs.declared.event.Reply.{Reply}
+use Rattle.synic_board.specs.declared.event.Reply.TheVariants.{Done}
 use Rattle.synic_board.specs.State.{State, BoardModel, processors}
 use Rattle.synic_board.specs.Effects.{Outcome}
 use Rattle.synic_board.specs.Run.{run_of}
@@ -17,9 +18,10 @@ use Rattle.synic_board.proofs.Clocks.{ticked_before}
 use Rattle.live_pages.specs.Slot.{known}
 use Rattle.live_pages.specs.declared.access.Access.{Access}
 use Rattle.live_board.specs.Words.{word_of}
-use Rattle.live_board.specs.Live.{LiveModel, Shadows, IsTicked, all_done, looked_from, marked_from, is_any_due}
+use Rattle.live_board.specs.Live.{Shadows, IsTicked, all_done, looked_from, marked_from, is_any_due, AreDueDirect}
 use Rattle.live_board.specs.inside.Parts.{IsTickFrom}
 use Rattle.live_board.proofs.Shadowed.{live}
+use Rattle.live_board.proofs.Ticked.{none-owed}
 
 -- a tick before the earliest deadline changes no own page
 own-early : (s : State) (moment : ℕ) → is_any_due s moment ≡ false → (ticked s moment).0.own ≡ s.own
@@ -59,24 +61,27 @@ marked-none zero k s pages = refl
 marked-none (suc m) k s pages =
     append-nil (marked_from s pages (λ _. []) (λ _. []) (λ _. []) (suc k) m) ∙ marked-none m (suc k) s pages
 
-pub ticked-early : (old now : BoardModel) (pages : List (List Access)) (moment : ℕ) (reply : Reply) (owed : List Bool)
-    (notices late : List Notice) → is_any_due old.state moment ≡ false
-    → (now.state, reply, notices) ≡ step old.state (Tick moment) → late ≡ []
-    → ((p : ℕ) → get_or owed p false ≡ false)
-    → IsTicked (live old pages) moment (live now pages) reply owed notices late
+-- a tick at which no timer in message mode is due, without an access
+pub ticked-quiet : (old now : BoardModel) (pages : List (List Access)) (moment : ℕ) (reply : Reply)
+    (notices : List Notice)
+    → (is_any_due old.state moment ≡ true → (p : ℕ) → p < processors old.state → AreDueDirect old.state p moment)
+    → (now.state, reply, notices) ≡ step old.state (Tick moment)
+    → IsTicked (live old pages) moment (live now pages) reply 0 notices
 unfolding run_of
-ticked-early old now pages moment reply owed notices late none is empty owes = record {
+ticked-quiet old now pages moment reply notices direct is = record {
   looks = λ _. [];
   stores = λ _. [];
   marks = λ _. [];
-  due = λ yes. absurd (let e : true ≡ false = sym yes ∙ none in cc);
+  due = λ yes p low posted. absurd (posted (direct yes p low));
   idle = λ _ p. (refl, refl, refl);
+  direct = λ p _ _. (refl, refl, refl);
   logs = λ p _. refl;
   flags = λ p. refl;
+  names = refl;
   run = (λ i. run_of s (looks i ++ Tick moment ∷ marks i)) ∙ ap (λ (o : Outcome). (o.0, o.1 ∷ [], o.2 ++ [])) (sym is)
-      ∙ (λ i. (now.state, all_done (sym looks i) ++ reply ∷ all_done (sym marks i), notices ++ sym empty i));
-  owes = λ p _. owes p;
-  direct = λ p _ _. (refl, refl);
+      ∙ (λ i. (now.state, all_done (sym looks i) ++ reply ∷ all_done (sym marks i), append-nil notices i));
+  owes = λ p _. none-owed p;
+  unowed = λ p _. none-owed p;
 }
   where
     s : State
@@ -89,38 +94,40 @@ ticked-early old now pages moment reply owed notices late none is empty owes = r
     marks = marked-none (processors s) 0 s pages
 
 pub ticked-due : (old now : BoardModel) (pages pages-now : List (List Access)) (moment m : ℕ) (reply : Reply)
-    (owed : List Bool) (before after late : List Notice) → is_any_due old.state moment ≡ true
+    (owed : ℕ) (before after : List Notice) → is_any_due old.state moment ≡ true
     → m ≡ processors old.state → before ≡ []
-    → IsTickFrom old.state 0 m pages (Tick moment) now.state pages-now reply owed before after late
-    → IsTicked (live old pages) moment (live now pages-now) reply owed after late
-ticked-due old now pages pages-now moment m reply owed before after late due count empty h = record {
+    → IsTickFrom old.state 0 m pages (Tick moment) now.state pages-now reply owed before after
+    → IsTicked (live old pages) moment (live now pages-now) reply owed after
+ticked-due old now pages pages-now moment m reply owed before after due count empty h = record {
   looks = t.looks;
   stores = t.stores;
   marks = t.marks;
-  due = λ _ p less. t.are p (omega arith) (omega (arith, less));
+  due = λ _ p less. t.posted p (omega arith) (omega (arith, less));
   idle = λ none. absurd (let e : true ≡ false = sym due ∙ none in cc);
+  direct = λ p less. t.direct p (omega arith) (omega (arith, less));
   logs = λ p less. t.logs p (omega arith) (omega (arith, less));
   flags = t.flags;
+  names = refl;
   run = t.run ∙ ap (λ (ns : List Notice). (
     now.state,
     all_done (looked_from old.state pages t.looks 0 (processors old.state))
         ++ reply ∷ all_done (marked_from old.state pages t.looks t.stores t.marks 0 (processors old.state)),
-    ns ++ late,
+    ns,
   ))
       (sym (t.notices ∙ ap (λ ns. ns ++ t.emitted) empty));
   owes = λ p less. t.owes p (omega arith) (omega (arith, less));
-  direct = λ p less. t.direct p (omega arith) (omega (arith, less));
+  unowed = λ p le. t.beyond p (omega (arith, le));
 }
   where
     t : IsTickFrom old.state 0 (processors old.state) pages
-        (Tick moment) now.state pages-now reply owed before after late
-    t = subst (λ n. IsTickFrom old.state 0 n pages (Tick moment) now.state pages-now reply owed before after late)
+        (Tick moment) now.state pages-now reply owed before after
+    t = subst (λ n. IsTickFrom old.state 0 n pages (Tick moment) now.state pages-now reply owed before after)
         count h
 
 pub ticked-shadows : (s now : State) (pages pages-now : List (List Access)) (m : ℕ) (event : Event) (reply : Reply)
-    (owed : List Bool) (before after late : List Notice) → m ≡ processors s → HasShape s → Shadows s pages
-    → IsTickFrom s 0 m pages event now pages-now reply owed before after late → Shadows now pages-now
-ticked-shadows s now pages pages-now m event reply owed before after late count shape h t = record {
+    (owed : ℕ) (before after : List Notice) → m ≡ processors s → HasShape s → Shadows s pages
+    → IsTickFrom s 0 m pages event now pages-now reply owed before after → Shadows now pages-now
+ticked-shadows s now pages pages-now m event reply owed before after count shape h t = record {
   count = t.size ∙ h.count ∙ sym t.count;
   few = omega (arith, t.size, h.few);
   words = λ j w low small. by j w (omega (arith, low, t.count)) small (cases_eq (j % 2) 0);
@@ -138,15 +145,15 @@ ticked-shadows s now pages pages-now m event reply owed before after late count 
         (ap (λ l. known l w) (t.flags (j / 2)) ∙ h.words (2 * (j / 2) + 1) w (omega (arith, place, low)) small
         ∙ sym (t.odd (j / 2) w small))
 
--- the same, in terms of the whole board
-pub ticked-at : (old other now : LiveModel) (moment : ℕ) (reply : Reply) (owed : List Bool)
-    (notices late : List Notice) → old ≡ other → IsTicked old moment now reply owed notices late
-    → IsTicked other moment now reply owed notices late
-ticked-at old other now moment reply owed notices late is h =
-    subst (λ m. IsTicked m moment now reply owed notices late) is h
+-- a tick that does not move the clock back is done
+pub tick-done : (s now : State) (moment : ℕ) (reply : Reply) (notices : List Notice) → s.moment ≤ moment
+    → (now, reply, notices) ≡ step s (Tick moment) → reply ≡ Done
+unfolding step
+tick-done s now moment reply notices onward is = ap (λ (o : Outcome). o.1) is ∙ by (moment == s.moment) refl
+  where
+    there : nat_lt moment s.moment ≡ false
+    there = grind (arith, nat_tests)
 
--- no processor is owed an EOM
-pub none-owed : (m p : ℕ) → get_or (replicate m false) p false ≡ false
-none-owed zero p = refl
-none-owed (suc m) zero = refl
-none-owed (suc m) (suc p) = none-owed m p
+    by : (b : Bool) → (moment == s.moment) ≡ b → (ticked s moment).1 ≡ Done
+    by true same = rw (there, same) refl
+    by false same = rw (there, same) refl

@@ -1,5 +1,5 @@
 -- A timer in direct mode sends no message: it changes no own page.
-use Rattle.std.proofs.Common.{◌≡◌, ℕ, ◌+◌, ◌-◌, ◌*◌, ◌/◌, ◌%◌, ◌^◌, ◌<◌, ◌≤◌, Bool, true, false, nat_lt, List, [], ◌∷◌, ◌++◌, length, get_or, Option, None, Some, append-nil, refl, sym, ap, ◌∙◌, subst, arith}
+use Rattle.std.proofs.Common.{◌≡◌, ℕ, ◌+◌, ◌-◌, ◌/◌, ◌%◌, ◌^◌, ◌<◌, ◌≤◌, Bool, true, false, nat_lt, List, length, Option, None, Some, refl, sym, ap, ◌∙◌, subst, arith}
 use Rattle.std.specs.Prelude.{◌==◌, bit_and, if◌then◌else◌}
 use Rattle.std.specs.Option.{option_map_or}
 use Rattle.std.proofs.lemmas.Bool.Decides.{nat_tests}
@@ -19,21 +19,15 @@ use Rattle.synic_board.specs.declared.event.Event.TheVariants.{Write}
 use Rattle.synic_board.specs.declared.event.Reply.{Reply}
 use Rattle.synic_board.specs.declared.event.Reply.TheVariants.{GeneralProtection}
 use Rattle.board_terms.specs.declared.notices.Notice.{Notice}
-use Rattle.board_terms.specs.declared.pages.Kind.TheVariants.{Sim}
 use Rattle.synic_board.specs.State.{State, processors, bank_of, with_bank}
 use Rattle.synic_board.specs.Effects.{Effect, Outcome, unchanged}
 use Rattle.synic_board.specs.Registers.{written_register}
-use Rattle.synic_board.specs.Run.{run_of}
 use Rattle.synic_board.specs.Sound.{HasShape}
 use Rattle.synic_board.specs.Step.{step}
 use Rattle.synic_board.specs.Timers.{mode_at, is_ready, signalled_by, expired_state, expiry_at, fired, attempted, written_timer}
 use Rattle.synic_board.proofs.keeping.Requests.{either}
-use Rattle.live_pages.specs.declared.access.Access.{Access}
-use Rattle.live_board.specs.Live.{all_done, explained}
-use Rattle.live_board.specs.Words.{word_at}
 use Rattle.live_board.specs.Timers.{is_direct_by, is_direct_write}
-use Rattle.live_board.specs.inside.Parts.{IsStep, IsViewed, IsTimedPart, IsTimerOf}
-use Rattle.live_board.proofs.TimedPart.{run-around}
+use Rattle.live_board.specs.inside.Parts.{IsTimerOf}
 use Rattle.live_board.proofs.Tried.{own-requested}
 
 own-signalled : (s : State) (t : ℕ × ℕ) (v : ℕ) (o : Option ℕ) → (signalled_by s t (Direct v) o).0.own ≡ s.own
@@ -50,6 +44,23 @@ own-attempted s t direct =
     either (λ (e : Effect). e.0.own ≡ s.own) (is_ready s t) _ _
     (λ _. subst (λ (m : Mode). (fired s t m).0.own ≡ s.own) (sym mode)
     (own-signalled (expired_state s t) t (vector_of config) (expiry_at s t).signal)) (λ _. refl)
+
+queues-signalled : (s : State) (t : ℕ × ℕ) (v : ℕ) (o : Option ℕ)
+    → (signalled_by s t (Direct v) o).0.queues ≡ s.queues
+queues-signalled s t v None = refl
+queues-signalled s t v (Some d) =
+    either (λ (e : Effect). e.0.queues ≡ s.queues) _ _ _ (λ _. refl) (λ _. refl)
+
+pub queues-attempted : (s : State) (t : ℕ × ℕ) → is_direct (timer_in (bank_of s) t).config ≡ true
+    → (attempted s t).0.queues ≡ s.queues
+unfolding attempted
+queues-attempted s t direct =
+    let config : ℕ = (timer_in (bank_of s) t).config in
+    let mode : mode_at s t ≡ Direct (vector_of config) =
+    ap (λ b. if b then Direct (vector_of config) else Posted (sint_of config)) direct in
+    either (λ (e : Effect). e.0.queues ≡ s.queues) (is_ready s t) _ _
+    (λ _. subst (λ (m : Mode). (fired s t m).0.queues ≡ s.queues) (sym mode)
+    (queues-signalled (expired_state s t) t (vector_of config) (expiry_at s t).signal)) (λ _. refl)
 
 -- what a write stores has the same mode
 pub direct-disabled : (c : ℕ) → is_direct (disabled c) ≡ is_direct c
@@ -111,38 +122,8 @@ own-direct s now p (Write q number value) reply notices (on, same, timer) direct
         ≡ option_map_or (λ r. (written_register s p r value).0.own) o s.own) [ None ↦ refl | Some r ↦ refl ])
 own-direct s now p event reply notices other direct is few shape = absurd other
 
--- whether a timer is in direct mode depends on neither own pages nor tickets of slots
-pub rest-direct : (s now : State) (event : Event) → now ≡ record s { own = now.own; slots = now.slots }
-    → is_direct_write s event ≡ true → is_direct_write now event ≡ true
-rest-direct s now (Write q number value) rest direct = by (register_of number) direct
-  where
-    by : (o : Option Register) → is_direct_by s q value o ≡ true → is_direct_by now q value o ≡ true
-    by (Some (register.TimerConfig n)) h = h
-    by (Some (register.TimerCount n)) h = ap (λ (t : State). is_direct (timer_in (bank_of t) (q, n)).config) rest ∙ h
-    by o h = absurd (cc)
-rest-direct s now event rest direct = absurd (cc)
-
--- a write of such a timer after looks
-pub part-direct : (s mid now : State) (p : ℕ) (log log-now : List Access) (event : Event) (reply : Reply)
-    (first after : List Notice) → IsViewed s p log mid log-now first → IsStep mid event now reply first after
-    → now.own ≡ mid.own
-    → IsTimedPart s p log event now log-now reply false after
-unfolding run_of
-part-direct s mid now p log log-now event reply first after v one own = record {
-  looks = v.watched.news;
-  stores = [];
-  marks = [];
-  are = record { shown = v.shown; hidden = λ no. (v.hidden no, refl); stored = tt; marked = tt; careful = λ _. tt };
-  page = v.watched.page;
-  run = run-around s mid now now earlier [] event reply first one.emitted [] v.watched.run one.step refl
-      ∙ ap (λ (ns : List Notice). (now, all_done earlier ++ reply ∷ [], ns))
-      (ap (λ ns. first ++ ns) (append-nil one.emitted) ∙ sym one.notices);
-  owes = refl;
-  direct = λ _. (refl, refl);
-  shadow = λ x low. v.shadow x low ∙ ap (λ l. word_at (get_or l (2 * p) []) (8 * x)) (sym own);
-  others = λ j x low ne. ap (λ l. word_at (get_or l j []) (8 * x)) own ∙ v.watched.others j x low ne;
-  count = ap length own ∙ v.watched.count;
-}
-  where
-    earlier : List Event
-    earlier = explained s p Sim v.watched.news log
+-- whether the write is of a timer in direct mode then
+pub direct-of : (s : State) (p q number value : ℕ) → p ≡ q → is_direct_by s p value (register_of number) ≡ true
+    → is_direct_write s (Write q number value) ≡ true
+direct-of s p q number value same direct =
+    ap (λ k. is_direct_by s k value (register_of number)) (sym same) ∙ direct

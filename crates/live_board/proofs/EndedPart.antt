@@ -20,7 +20,7 @@ use Rattle.synic_board.proofs.keeping.Placements.{page_of}
 use Rattle.live_pages.specs.Slot.{known, type_of}
 use Rattle.live_pages.specs.declared.access.Access.{Access}
 use Rattle.live_board.specs.Words.{word_of}
-use Rattle.live_board.specs.Live.{explained, all_done, AreCareful, IsShown, HasProbed, ProbesIf, AreProbes, NoneQueued, is_waiting}
+use Rattle.live_board.specs.Live.{explained, all_done, AreCareful, IsShown, HasProbed, ProbesIf, AreProbes, NoneQueued, is_waiting, ArePlaced}
 use Rattle.live_board.specs.inside.Parts.{IsShadow, IsStep, IsPart, IsLeft, IsProbing, IsPublished, IsWatched, Ends, IsEomOf}
 use Rattle.live_board.proofs.Ended.{ended}
 use Rattle.live_board.proofs.Filled.{stores-show}
@@ -157,8 +157,14 @@ part-ended-hidden s now p log log-now words event reply before after empty hidde
 pub has-probed : (s mid now : State) (p : ℕ) (log log-mid log-now : List Access) (words : List ℕ)
     (between : List Notice) → IsProbing s p log mid log-mid words between 16
     → IsPublished now p true words 16 log-mid log-now → HasProbed s p log log-now
-has-probed s mid now p log log-mid log-now words between h pub-now =
-    (pub-now.news, h.watched.news, pub-now.page ∙ ap (λ l. pub-now.news ++ l) h.watched.page, pub-now.stores, h.probes)
+has-probed s mid now p log log-mid log-now words between h pub-now = (
+  pub-now.news,
+  h.watched.news,
+  pub-now.page ∙ ap (λ l. pub-now.news ++ l) h.watched.page,
+  pub-now.stores,
+  h.probes,
+  subst (λ l. ArePlaced 16 l pub-now.news) h.watched.page pub-now.placed,
+)
 
 -- a processor that writes EOM is on the board, and stays there
 pub eom-on : (s : State) (p : ℕ) (event : Event) → IsEomOf s p event → p < processors s

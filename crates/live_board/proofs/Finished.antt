@@ -6,6 +6,7 @@ use Rattle.synic_board.specs.State.{State}
 use Rattle.synic_board.specs.Run.{run_of}
 use Rattle.live_pages.specs.declared.access.Access.{Access}
 use Rattle.live_board.specs.Live.{IsShown, explained_after, all_done}
+use Rattle.live_board.proofs.Placed.{placed-empty}
 use Rattle.live_board.specs.inside.Parts.{IsShadow, IsPublished, IsMarking, IsFinished}
 
 -- nothing is left to do
@@ -21,6 +22,7 @@ finished-none s p log late shadow = (
     marks = [];
     page = refl;
     stored = tt;
+    placed = placed-empty 16 _;
     marked = tt;
     careful = λ _. tt;
     hidden = λ _. refl;
@@ -48,6 +50,7 @@ finished-hidden s p words log log-now before hidden published = record {
   marks = [];
   page = published.page;
   stored = published.stores;
+  placed = published.placed;
   marked = tt;
   careful = λ shown. absurd (hidden shown);
   hidden = λ _. refl;
@@ -72,6 +75,7 @@ finished-shown s now p words log between log-now owed before after shown publish
   marks = m.news;
   page = m.page ∙ ap (λ l. m.news ++ l) published.page;
   stored = published.stores;
+  placed = published.placed;
   marked = m.marks;
   careful = λ _. published.careful refl;
   hidden = λ no. absurd (no shown);
@@ -83,4 +87,29 @@ finished-shown s now p words log between log-now owed before after shown publish
   same = m.same;
   shadow = λ x low. m.done x low (inr (omega (arith, low)));
   owes = m.owes;
+}
+
+-- the same with the notices at the end of other ones
+pub finished-after : (s now : State) (p : ℕ) (log log-now : List Access) (owed : Bool) (before after : List Notice)
+    (notices : List Notice) {last : List Notice} → before ≡ [] → last ≡ notices ++ after
+    → IsFinished s p log now log-now owed before after → IsFinished s p log now log-now owed notices last
+finished-after s now p log log-now owed before after notices empty together h = record {
+  emitted = h.emitted;
+  notices = together ∙ ap (λ ns. notices ++ ns) (h.notices ∙ ap (λ ns. ns ++ h.emitted) empty);
+  few = h.few;
+  stores = h.stores;
+  marks = h.marks;
+  page = h.page;
+  stored = h.stored;
+  placed = h.placed;
+  marked = h.marked;
+  careful = h.careful;
+  hidden = h.hidden;
+  run = h.run;
+  rest = h.rest;
+  count = h.count;
+  others = h.others;
+  same = h.same;
+  shadow = h.shadow;
+  owes = h.owes;
 }

@@ -51,7 +51,7 @@ goes-requested s q v p i =
     (λ _. inl (refl, λ h w. record { occupied = (h w).occupied; pending = (h w).pending }))
 
 -- an attempt at another source
-queue-tried : (s : State) (q j k : ℕ) → k ≢ source_number q j
+pub queue-tried : (s : State) (q j k : ℕ) → k ≢ source_number q j
     → get_or (tried s q j).0.queues k [] ≡ get_or s.queues k []
 unfolding tried
 queue-tried s q j k ne =

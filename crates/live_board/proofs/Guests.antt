@@ -138,12 +138,12 @@ fits-marked (suc m) k s pages looks stores marks =
     (fits-marked m (suc k) s pages looks stores marks)
     (fits-marks s k (marks k) (stores k ++ (looks k ++ get_or pages (2 * k) [])))
 
-pub tick-conserves : (old now : LiveModel) (moment : ℕ) (reply : Reply) (owed : List Bool)
-    (notices late : List Notice) → IsSound old.board.state → IsTicked old moment now reply owed notices late
-    → IsSound now.board.state × Conserves old.board.state now.board.state (notices ++ late)
-tick-conserves old now moment reply owed notices late h t =
+pub tick-conserves : (old now : LiveModel) (moment : ℕ) (reply : Reply) (owed : ℕ) (notices : List Notice)
+    → IsSound old.board.state → IsTicked old moment now reply owed notices
+    → IsSound now.board.state × Conserves old.board.state now.board.state notices
+tick-conserves old now moment reply owed notices h t =
     let s : State = old.board.state in
-    kept-by s now.board.state _ _ (notices ++ late)
+    kept-by s now.board.state _ _ notices
     (fits-around _ _ (event.Tick moment) (fits-looked (processors s) 0 s old.pages t.looks) tt
     (fits-marked (processors s) 0 s old.pages t.looks t.stores t.marks)) h t.run
 

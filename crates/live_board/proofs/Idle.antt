@@ -1,9 +1,8 @@
 -- An EOM of a processor with no queued message changes nothing.
-use Rattle.std.proofs.Common.{◌≡◌, ℕ, zero, suc, ◌<◌, true, false, nat_lt, Some, List, [], refl, sym, ap, ◌∙◌, arith}
+use Rattle.std.proofs.Common.{◌≡◌, ℕ, zero, suc, ◌<◌, true, false, nat_lt, List, [], refl, sym, ap, ◌∙◌, arith}
 use Rattle.std.specs.Prelude.{if◌then◌else◌}
 use Rattle.std.proofs.lemmas.Bool.Decides.{nat_tests}
 use Rattle.board_terms.specs.declared.notices.Notice.{Notice}
-use Rattle.synic_regs.specs.declared.register.Register.TheVariants.{Eom}
 use Rattle.synic_board.specs.declared.event.Event.TheVariants.{Write}
 use Rattle.synic_board.specs.declared.event.Reply.TheVariants.{Done}
 use Rattle.synic_board.specs.State.{State, processors}
@@ -11,10 +10,12 @@ use Rattle.synic_board.specs.Effects.{Effect, nothing, after, answered}
 use Rattle.synic_board.specs.Interrupts.{raised}
 use Rattle.synic_board.specs.Delivery.{is_slot_empty, placed, marked, tried, tried_below}
 use Rattle.synic_board.specs.Step.{step}
-use Rattle.live_board.specs.Acting.{IsRegisterWrite, none_owed}
+use Rattle.live_board.specs.Acting.{IsEnded}
 use Rattle.live_board.specs.Live.{LiveModel, NoneQueued, is_waiting}
+use Rattle.live_board.proofs.Placed.{placed-empty}
 use Rattle.live_board.proofs.EndedPart.{none-waiting, probes-none}
 use Rattle.live_board.proofs.Shadowed.{untouched-live}
+use Rattle.live_board.proofs.Named.{live-named}
 
 tried-idle : (s : State) (p i : ℕ) → is_waiting s p i ≡ false → tried s p i ≡ nothing s
 unfolding tried
@@ -38,11 +39,18 @@ eom-idle s p value on none =
     state ∙ ap (answered Done) (below-idle s p 16 (none-waiting s p none))
 
 pub idle-written : (m : LiveModel) (p value : ℕ) (notices : List Notice) → notices ≡ [] → p < processors m.board.state
-    → NoneQueued m.board.state p → IsRegisterWrite (Some Eom) p m (Write p 0x40000084 value) m Done none_owed notices
+    → NoneQueued m.board.state p → IsEnded p m (Write p 0x40000084 value) m Done notices
 idle-written m p value notices empty on none = (
-  untouched-live m.board m.board m.pages (Write p 0x40000084 value) Done notices
-      (ap (λ ns. (m.board.state, Done, ns)) empty ∙ sym (eom-idle m.board.state p value on none)),
-  (λ _ _. ([], [], refl, tt, probes-none m.board.state p 16 (none-waiting m.board.state p none))),
+  (live-named (Write p 0x40000084 value) Done notices).named m m refl
+      (untouched-live m.board m.board m.pages (Write p 0x40000084 value) Done notices
+      (ap (λ ns. (m.board.state, Done, ns)) empty ∙ sym (eom-idle m.board.state p value on none))),
+  (λ _ _. (
+    [],
+    [],
+    refl,
+    tt,
+    probes-none m.board.state p 16 (none-waiting m.board.state p none),
+    placed-empty 16 _,
+  )),
   (λ _. refl),
-  refl,
 )

@@ -112,6 +112,35 @@ same-true x h e = grind (arith, nat_tests)
 other-false : (x h : ℕ) → x ≢ h → (x == h) ≡ false
 other-false x h e = grind (arith, nat_tests)
 
+-- a post that leaves the header of a slot, or only marks it, leaves its payload
+pub kept-payload : (mid now : State) (number kind : ℕ) (port : Port) (left : ℕ) → port.sint < 16
+    → ((b : ℕ) → b < 8 → get_or (page_of mid port.vp) (8 * (32 * port.sint) + b) 0 < 256)
+    → ((b : ℕ) → b < 8 → get_or (page_of now port.vp) (8 * (32 * port.sint) + b) 0 < 256)
+    → Made mid number kind port now
+    → type_of left ≡ type_of (word_of mid (2 * port.vp) (32 * port.sint))
+    → word_of now (2 * port.vp) (32 * port.sint) ≡ left → (k : ℕ) → 1 ≤ k → k < 32
+    → word_of now (2 * port.vp) (32 * port.sint + k) ≡ word_of mid (2 * port.vp) (32 * port.sint + k)
+kept-payload mid now number kind port left under bytes bytes-now m like same k some low =
+    by (is_attempted mid number kind port) refl (is_slot_empty mid p i) refl
+  where
+    p : ℕ
+    p = port.vp
+
+    i : ℕ
+    i = port.sint
+
+    types : slot_type (page_of now p) i ≡ slot_type (page_of mid p) i
+    types = sym (type-is (page_of now p) i bytes-now) ∙ ap type_of same ∙ like ∙ type-is (page_of mid p) i bytes
+
+    by : (made : Bool) → is_attempted mid number kind port ≡ made → (empty : Bool) → is_slot_empty mid p i ≡ empty
+        → word_of now (2 * p) (32 * i + k) ≡ word_of mid (2 * p) (32 * i + k)
+    by false none _ _ = m.idle none (2 * p) (32 * i + k)
+    by true holds false full =
+        m.marks holds full (32 * i + k) (omega (arith, under, low))
+        ∙ rw (other-false (32 * i + k) (32 * i) (λ e. omega (arith, e, some))) refl
+    by true holds true empty =
+        absurd (let e : true ≡ false = sym empty ∙ ap (λ n. n == 0) (sym types) ∙ m.fills holds empty in cc)
+
 -- an occupied slot after a post
 pub part-kept : (s mid now : State) (number kind : ℕ) (port : Port) (log log-mid : List Access) (header left : ℕ)
     (event : Event) (reply : Reply) (between after : List Notice)

@@ -36,6 +36,7 @@ still-attempts s now p i made own none = record {
   others = λ j x _ _. ap (λ l. word_of (record s { own = l }) j x) own;
   idle = λ _ j x. ap (λ l. word_of (record s { own = l }) j x) own;
   marks = λ yes _ x _. absurd (let e : true ≡ false = sym yes ∙ none in cc);
+  fills = λ yes _. absurd (let e : true ≡ false = sym yes ∙ none in cc);
 }
 
 -- a message that is accepted is attempted if the SynIC and its message page are enabled
@@ -81,7 +82,7 @@ delivered-attempts s p i m h below under good bytes =
     let t = tries-is a (delivered s p i m).0 p i (omega (arith, h.whole.own, below))
     (page-long n s p h.whole below) under bytes pages in
     subst (λ made. Attempts s p i made (delivered s p i m).0) (attempted n s p i m h.whole below under good)
-    (record { count = t.count; others = t.others; idle = t.idle; marks = t.marks })
+    (record { count = t.count; others = t.others; idle = t.idle; marks = t.marks; fills = t.fills })
 
 -- a valid type of a post
 pub some-kind : (kind : ℕ) → is_posted_type kind ≡ true → kind ≢ 0

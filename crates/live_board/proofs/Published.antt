@@ -11,6 +11,7 @@ use Rattle.live_pages.specs.declared.access.Access.TheVariants.{Load, FetchOr, S
 use Rattle.live_board.specs.Words.{word_of}
 use Rattle.live_board.specs.Live.{AreStores, AreCareful}
 use Rattle.live_board.specs.inside.Parts.{IsFilledFrom, IsPublished}
+use Rattle.live_board.proofs.Placed.{placed-skip, placed-more}
 use Rattle.live_board.proofs.Joined.{careful-append}
 
 stores-append : (later news : List Access) → AreStores later → AreStores news → AreStores (later ++ news)
@@ -25,6 +26,7 @@ publish-start s p shown words log = record {
   news = [];
   page = refl;
   stores = tt;
+  placed = refl;
   careful = λ _. tt;
   done = λ x low under _. absurd (omega (arith, under));
   left = λ x low _. refl;
@@ -41,6 +43,7 @@ publish-skip s p shown words n log now h seen full = record {
   news = h.news;
   page = h.page;
   stores = h.stores;
+  placed = placed-skip n log h.news h.placed;
   careful = h.careful;
   done = λ x low under which. by x low which (cases_eq (x / 32) n) under;
   left = λ x low which. h.left x low
@@ -63,8 +66,9 @@ publish-skip s p shown words n log now h seen full = record {
 
 -- a slot that the host knows
 pub filled-kept : (s : State) (p i header : ℕ) (log : List Access)
+    → word_of s (2 * p) (32 * i) ≡ header
     → ((k : ℕ) → k < 32 → known log (32 * i + k) ≡ word_of s (2 * p) (32 * i + k)) → IsFilledFrom s p i header log log
-filled-kept s p i header log knows = record {
+filled-kept s p i header log head knows = record {
   words = words;
   are = are;
   filled = record {
@@ -74,6 +78,11 @@ filled-kept s p i header log knows = record {
     careful = λ _. tt;
     words = λ k low. knows k low ∙ sym (are k low);
     others = λ x _. refl;
+    placed = inl (
+      are 0 (omega arith) ∙ ap (word_of s (2 * p)) (let z : 32 * i + 0 ≡ 32 * i = omega arith in z)
+          ∙ head,
+      refl,
+    );
   };
 }
   where
@@ -91,6 +100,7 @@ publish-more s p shown words n log now next under h f free = record {
   news = f.filled.news ++ h.news;
   page = f.filled.page ∙ ap (λ l. f.filled.news ++ l) h.page ∙ sym (append_assoc f.filled.news h.news log);
   stores = stores-append f.filled.news h.news f.filled.stores h.stores;
+  placed = placed-more n _ _ _ _ _ h.news h.placed h.page f.filled;
   careful = λ seen. careful-append Sim f.filled.news h.news log
       (subst (AreCareful Sim f.filled.news) h.page (f.filled.careful (empty seen free))) (h.careful seen);
   done = λ x low below which. done x low which (cases_eq (x / 32) n) below;

@@ -3,7 +3,9 @@ use Rattle.std.proofs.Common.{◌≡◌, ◌≢◌, ℕ, Bool, true, false, List
 use Rattle.std.specs.Prelude.{◌==◌, ◌||◌, not, nat_lt, if◌then◌else◌}
 use Rattle.std.proofs.lemmas.Bool.Decides.{nat_tests}
 use Rattle.live_pages.specs.Slot.{known, header, type_of, is_pending}
-use Rattle.live_pages.specs.Traces.{Turn, by_host, by_guest, memory, accesses, IsHistory}
+use Rattle.live_pages.specs.declared.access.Turn.{Turn}
+use Rattle.live_pages.specs.declared.access.Turn.TheVariants.{ByHost, ByGuest}
+use Rattle.live_pages.specs.Traces.{memory, accesses, IsHistory}
 use Rattle.live_pages.specs.Protocol.{idle, cleared, HostAt, GuestAt}
 use Rattle.live_pages.specs.Headers.{Slot, Step, are_steps, led_to, is_stuck, is_occupied}
 use Rattle.live_pages.specs.declared.access.Access.{Access}
@@ -16,8 +18,8 @@ equal : (a b : ℕ) → (a == b) ≡ true → a ≡ b
 equal a b e = grind (arith, nat_tests)
 
 -- after an access to a word memory has what the host knows
-memory-of : (a : Access) (turns : List Turn) (log : List Access) (w : ℕ) → IsHistory (by_host a ∷ turns)
-    → is_of w a ≡ true → memory (by_host a ∷ turns) w ≡ known (a ∷ log) w
+memory-of : (a : Access) (turns : List Turn) (log : List Access) (w : ℕ) → IsHistory (ByHost a ∷ turns)
+    → is_of w a ≡ true → memory (ByHost a ∷ turns) w ≡ known (a ∷ log) w
 memory-of (Load x found) turns log w h of =
     ap (memory turns) (equal w x of) ∙ sym h.0 ∙ sym (ap (λ (b : Bool). if b then found else known log w) of)
 memory-of (FetchOr x mask found) turns log w h of = rw of refl
@@ -39,12 +41,12 @@ was : (i : ℕ) (turns : List Turn) (news log : List Access) → accesses turns 
     → WasMarked i log turns
 was i turns [] log is some marks h = absurd (cc)
 was i [] (b ∷ news) log is some marks h = absurd (cc)
-was i (by_guest x value ∷ turns) (b ∷ news) log is some marks h =
+was i (ByGuest x value ∷ turns) (b ∷ news) log is some marks h =
     let r = was i turns (b ∷ news) log is some marks h in
     record {
-      since = by_guest x value ∷ r.since;
+      since = ByGuest x value ∷ r.since;
       before = r.before;
-      split = ap (λ l. by_guest x value ∷ l) r.split;
+      split = ap (λ l. ByGuest x value ∷ l) r.split;
       call =
           r.call;
       within =
@@ -54,7 +56,7 @@ was i (by_guest x value ∷ turns) (b ∷ news) log is some marks h =
       pending = r.pending;
       untouched = r.untouched;
     }
-was i (by_host a ∷ turns) (b ∷ news) log is some marks h =
+was i (ByHost a ∷ turns) (b ∷ news) log is some marks h =
     by (is_of (header i) a) refl (λ other. was i turns news log rest (later other) (less other) h.1)
   where
     first : b ≡ a
@@ -69,16 +71,16 @@ was i (by_host a ∷ turns) (b ∷ news) log is some marks h =
     less : is_of (header i) a ≡ false → Marks (known (news ++ log) (header i))
     less other = subst Marks (known-other b (news ++ log) (header i) (ap (is_of (header i)) first ∙ other)) marks
 
-    here : is_of (header i) a ≡ true → Marks (memory (by_host a ∷ turns) (header i))
+    here : is_of (header i) a ≡ true → Marks (memory (ByHost a ∷ turns) (header i))
     here of = subst Marks (ap (λ c. known (c ∷ (news ++ log)) (header i)) first
         ∙ sym (memory-of a turns (news ++ log) (header i) h of)) marks
 
     by : (c : Bool) → is_of (header i) a ≡ c → (is_of (header i) a ≡ false → WasMarked i log turns)
-        → WasMarked i log (by_host a ∷ turns)
+        → WasMarked i log (ByHost a ∷ turns)
     by true of more =
         record {
           since = [];
-          before = by_host a ∷ turns;
+          before = ByHost a ∷ turns;
           split = refl;
           call = b ∷ news;
           within = is;
@@ -90,9 +92,9 @@ was i (by_host a ∷ turns) (b ∷ news) log is some marks h =
     by false of more =
         let r = more of in
         record {
-          since = by_host a ∷ r.since;
+          since = ByHost a ∷ r.since;
           before = r.before;
-          split = ap (λ l. by_host a ∷ l) r.split;
+          split = ap (λ l. ByHost a ∷ l) r.split;
           call = r.call;
           within = r.within;
           accessed = r.accessed;

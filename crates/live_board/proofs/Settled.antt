@@ -117,6 +117,7 @@ settled : (old mid now : BoardModel) (pages : List (List Access)) (p : ℕ) (log
     → IsLoaded mid.state p kind.Sief (get_or pages (2 * p + 1) []) now.state log2 between after
     → IsSettled p (live old pages) (live now (set (set pages (2 * p) log1) (2 * p + 1) log2)) after
 settled old mid now pages p log1 log2 between after a b = record {
+  few = omega (arith, a.few, b.few, ap length a.notices, ap length b.notices, length-append between b.emitted);
   messages = a.watched.news;
   flags = b.watched.news;
   are_messages = a.are;
@@ -125,6 +126,7 @@ settled old mid now pages p log1 log2 between after a b = record {
     hidden = λ hidden. b.are.hidden (λ shown. hidden (shown-before s mid.state p kind.Sief a.watched.rest shown));
   };
   pages = (λ i. set (set pages (2 * p) (a.watched.page i)) (2 * p + 1) (b.watched.page i));
+  names = refl;
   run = run;
 }
   where

@@ -1,6 +1,8 @@
 -- A call on one page of a live board.
 use Rattle.std.proofs.Common.{◌≡◌, ◌≢◌, ◌⊎◌, inl, inr, ℕ, ◌+◌, ◌*◌, ◌<◌, Bool, List, [], ◌∷◌, ◌++◌, length, get_or, set, refl, sym, ap, ◌∙◌, subst, arith, length-set, append-nil}
-use Rattle.std.specs.Prelude.{None}
+use Rattle.std.specs.Prelude.{None, Some}
+use Rattle.event_ports.specs.declared.ports.Port.{Port}
+use Rattle.live_board.specs.Signals.{signalled_flag, IsSet, HasSetAt}
 use Rattle.std.proofs.lemmas.Bool.{cases_eq}
 use Rattle.std.proofs.lemmas.List.{get_or-set_same, get_or-set_other, get_or_default, set-get_or}
 use Rattle.arrayvec.specs.ArrayVec.{ArrayVec}
@@ -22,10 +24,12 @@ use Rattle.live_pages.specs.Slot.{known}
 use Rattle.live_pages.specs.declared.access.Access.{Access}
 use Rattle.live_board.specs.Words.{word_of}
 use Rattle.live_board.specs.Live.{LiveModel, Shadows, IsLive, IsQuietly, IsObserved, IsShown, IsTimed, IsReset, HasProbed, log_of}
+use Rattle.live_board.specs.Acting.{AccessesOnly}
 use Rattle.live_board.specs.inside.Parts.{IsShadow, LeavesOthers, IsPart, IsTimedPart, IsViewed, IsResetPart, IsCleared}
 
+-- a board and its pages, without the names of these
 abbrev pub live : BoardModel → List (List Access) → LiveModel
-live board pages = record { board = board; pages = pages }
+live board pages = record { board = board; pages = pages; names = [] }
 
 -- a call on one page keeps the shadow
 pub page-shadows : (s now : State) (pages : List (List Access)) (o : ℕ) (log-now : List Access) → o < length s.own
@@ -71,9 +75,9 @@ timed-live old now pages p event log-now reply owed notices part = record {
   marks = part.marks;
   are = part.are;
   pages = ap (set pages (2 * p)) part.page;
+  names = refl;
   run = part.run;
   owes = part.owes;
-  direct = part.direct;
 }
 
 -- the same, in terms of the whole board
@@ -97,6 +101,7 @@ part-live old now pages p k event log-now reply notices part = record {
   kind = k;
   news = part.news;
   pages = ap (set pages (overlay_of p k)) part.page;
+  names = refl;
   run = part.run;
   careful = part.careful;
 }
@@ -111,6 +116,7 @@ untouched-live old now pages event reply notices is = record {
   kind = kind.Sim;
   news = [];
   pages = sym (set-get_or pages 0 []);
+  names = refl;
   run = ap (λ (o : Outcome). (o.0, o.1 ∷ [], o.2 ++ [])) (sym is)
       ∙ ap (λ (ns : List Notice). (now.state, reply ∷ [], ns)) (append-nil notices);
   careful = λ _. tt;
@@ -119,8 +125,15 @@ untouched-live old now pages event reply notices is = record {
 pub quiet-live : (old now : LiveModel) (event : Event) (reply : Reply) (notices : List Notice)
     → IsQuietly old event now reply notices → IsLive old event now reply notices
 quiet-live old now event reply notices quiet =
-    subst (λ pages. IsLive old event (live now.board pages) reply notices) (sym quiet.pages)
-    (untouched-live old.board now.board old.pages event reply notices quiet.performs.step)
+    let h = untouched-live old.board now.board old.pages event reply notices quiet.performs.step in record {
+      vp = h.vp;
+      kind = h.kind;
+      news = h.news;
+      pages = quiet.pages ∙ h.pages;
+      names = quiet.names;
+      run = h.run;
+      careful = h.careful;
+    }
 
 pub same-shadows : (s now : State) (pages : List (List Access)) → now.own ≡ s.own → Shadows s pages → Shadows now pages
 same-shadows s now pages own h = record {
@@ -182,6 +195,7 @@ pub viewed-observed : (old now : BoardModel) (pages : List (List Access)) (p : �
 viewed-observed old now pages p log-now notices v = record {
   news = v.watched.news;
   pages = ap (set pages (2 * p)) v.watched.page;
+  names = refl;
   shown = v.shown;
   hidden = v.hidden;
   run = v.watched.run;
@@ -216,6 +230,71 @@ probed-at old now pages other p i log log-now is index inside page h =
   where
     there : get_or (set pages i log-now) (2 * p) [] ≡ log-now
     there = ap (λ n. get_or (set pages n log-now) (2 * p) []) index ∙ get_or-set_same pages (2 * p) log-now [] inside
+
+-- a signal that was made where the guest sees the page
+pub set-seen : (old now : BoardModel) (pages : List (List Access)) (other : LiveModel) (port : Port)
+    (number flag place i : ℕ) (log log-now : List Access) (reply : Reply) → live old pages ≡ other
+    → i ≡ 2 * port.vp + 1 → 2 * port.vp + 1 < length pages → log ≡ get_or pages (2 * port.vp + 1) []
+    → port_at (ports_of old.state) number ≡ Some port → signalled_flag old.state flag port ≡ Some place
+    → IsSet port.sint place log log-now reply
+    → HasSetAt number flag other (live now (set pages i log-now)) reply
+set-seen old now pages other port number flag place i log log-now reply is index inside page opened at set-is =
+    subst (λ m. HasSetAt number flag m (live now (set pages i log-now)) reply) is by_any
+  where
+    same-Some : {A : Type 0} (x y : A) → Some x ≡ Some y → x ≡ y
+    same-Some x y e = cc
+
+    there : get_or (set pages i log-now) (2 * port.vp + 1) [] ≡ log-now
+    there = ap (λ n. get_or (set pages n log-now) (2 * port.vp + 1) []) index
+        ∙ get_or-set_same pages (2 * port.vp + 1) log-now [] inside
+
+    by_any : HasSetAt number flag (live old pages) (live now (set pages i log-now)) reply
+    by_any target place' opened' at' shown =
+        let same : port ≡ target = same-Some port target (sym opened ∙ opened') in
+        subst (λ (t : Port). IsSet t.sint place' (get_or pages (2 * t.vp + 1) [])
+        (get_or (set pages i log-now) (2 * t.vp + 1) []) reply) same
+        (subst (λ f. IsSet port.sint f (get_or pages (2 * port.vp + 1) [])
+        (get_or (set pages i log-now) (2 * port.vp + 1) []) reply)
+        (same-Some place place' (sym at ∙ ap (signalled_flag old.state flag) same ∙ at'))
+        (subst (λ l. IsSet port.sint place l (get_or (set pages i log-now) (2 * port.vp + 1) []) reply) page
+        (subst (λ l. IsSet port.sint place log l reply) (sym there) set-is)))
+
+-- what is said of the page of a port's source, in terms of the whole board
+pub port-at : (R : Port → List Access → List Access → Type 0) (old : BoardModel) (pages : List (List Access))
+    (number i : ℕ) (port : Port) (log log-now : List Access) → port_at (ports_of old.state) number ≡ Some port
+    → i ≡ 2 * port.vp → 2 * port.vp < length pages → log ≡ get_or pages (2 * port.vp) [] → R port log log-now
+    → (target : Port) → port_at (ports_of old.state) number ≡ Some target
+    → R target (get_or pages (2 * target.vp) []) (get_or (set pages i log-now) (2 * target.vp) [])
+port-at R old pages number i port log log-now there-is index inside page h target at =
+    subst (λ (t : Port). R t (get_or pages (2 * t.vp) []) (get_or (set pages i log-now) (2 * t.vp) [])) same
+    (subst (λ l. R port l (get_or (set pages i log-now) (2 * port.vp) [])) page (subst (R port log) (sym there) h))
+  where
+    same : port ≡ target
+    same = let e : Some port ≡ Some target = sym there-is ∙ at in cc
+
+    there : get_or (set pages i log-now) (2 * port.vp) [] ≡ log-now
+    there = ap (λ n. get_or (set pages n log-now) (2 * port.vp) []) index
+        ∙ get_or-set_same pages (2 * port.vp) log-now [] inside
+
+-- no other page than that of a port's source
+pub only-at : (old now : BoardModel) (pages : List (List Access)) (number i : ℕ) (k : Kind) (port : Port)
+    (log-now : List Access) → port_at (ports_of old.state) number ≡ Some port → i ≡ overlay_of port.vp k
+    → AccessesOnly number k (live old pages) (live now (set pages i log-now))
+only-at old now pages number i k port log-now there-is index = (
+  (λ target at j ne. get_or-set_other pages i j log-now []
+      (λ e. ne (e ∙ index ∙ ap (λ (t : Port). overlay_of t.vp k) (same target at)))),
+  (λ none. absurd (let e : Some port ≡ None = sym there-is ∙ none in cc)),
+)
+  where
+    same : (target : Port) → port_at (ports_of old.state) number ≡ Some target → port ≡ target
+    same target at = let e : Some port ≡ Some target = sym there-is ∙ at in cc
+
+pub only-none : (old now : BoardModel) (pages : List (List Access)) (number : ℕ) (k : Kind)
+    → port_at (ports_of old.state) number ≡ None → AccessesOnly number k (live old pages) (live now pages)
+only-none old now pages number k none = (
+  (λ target at. absurd (let e : Some target ≡ None = sym at ∙ none in cc)),
+  (λ _. refl),
+)
 
 -- a reset keeps the shadow
 pub reset-shadows : (s now : State) (pages : List (List Access)) (p i j : ℕ) (page1 page2 log1 log2 : List Access)
@@ -269,6 +348,7 @@ reset-at old now pages other p i j n page1 page2 log1 log2 reply notices is a b 
       hidden = part.hidden;
       clears = (part.clears, clear.clears);
       pages = (λ k. set (set pages (a k) (part.page k)) (b k) (clear.page k));
+      names = refl;
       run = part.run;
     })
   where

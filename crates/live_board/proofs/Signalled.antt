@@ -35,7 +35,8 @@ use Rattle.live_pages.specs.Slot.{known}
 use Rattle.live_pages.specs.declared.access.Access.{Access}
 use Rattle.live_pages.specs.declared.access.Access.TheVariants.{Store}
 use Rattle.live_board.specs.Live.{explained, all_done, IsShown}
-use Rattle.live_board.specs.inside.Parts.{IsShadow, IsMark, IsStep, IsPart, signalled_flag, flag_by}
+use Rattle.live_board.specs.inside.Parts.{IsShadow, IsMark, IsStep, IsPart}
+use Rattle.live_board.specs.Signals.{signalled_flag, flag_by}
 use Rattle.live_board.proofs.Filled.{stored-here, stored-other}
 use Rattle.live_board.proofs.Part.{run-then}
 use Rattle.live_board.proofs.Bytes.{bit-here, bit-elsewhere}

@@ -1,8 +1,9 @@
 -- A tick on several message pages.
-use Rattle.std.proofs.Common.{◌≡◌, ◌≢◌, ◌⊎◌, inl, inr, ℕ, zero, suc, ◌+◌, ◌*◌, ◌<◌, ◌≤◌, Bool, true, false, List, [], ◌∷◌, ◌++◌, length, get_or, set, refl, sym, ap, ◌∙◌, subst, arith, append_assoc, length-append, length-set}
+use Rattle.std.proofs.Common.{◌≡◌, ◌≢◌, ◌⊎◌, inl, inr, ℕ, zero, suc, ◌+◌, ◌*◌, ◌<◌, ◌≤◌, Bool, true, false, List, [], ◌∷◌, ◌++◌, length, get_or, set, refl, sym, ap, ◌∙◌, subst, arith, append_assoc, append-nil, length-append, length-set}
 use Rattle.std.specs.Prelude.{◌==◌, if◌then◌else◌}
 use Rattle.std.proofs.lemmas.Bool.{cases_eq}
 use Rattle.std.proofs.lemmas.Bool.Decides.{nat_tests}
+use Rattle.std.proofs.lemmas.Nat.Bits.{bit_at-zero}
 use Rattle.std.proofs.lemmas.List.{get_or-set_same, get_or-set_other, set-get_or}
 use Rattle.board_terms.specs.declared.notices.Notice.{Notice}
 use Rattle.board_terms.specs.declared.pages.Kind.TheVariants.{Sim}
@@ -13,6 +14,7 @@ use Rattle.synic_board.specs.declared.event.Event.TheVariants.{Tick}
 use Rattle.synic_board.specs.declared.event.Reply.{Reply}
 use Rattle.synic_board.specs.State.{State, processors}
 use Rattle.synic_board.specs.Effects.{Outcome}
+use Rattle.synic_board.specs.Bounds.{most_notices}
 use Rattle.synic_board.specs.Delivery.{is_slot_empty}
 use Rattle.synic_board.specs.Run.{Run, run_of}
 use Rattle.synic_board.specs.Ranges.{HasRanges}
@@ -22,9 +24,9 @@ use Rattle.synic_board.proofs.keeping.Wholes.{kept_from_sound}
 use Rattle.live_pages.specs.Slot.{known}
 use Rattle.live_pages.specs.declared.access.Access.{Access}
 use Rattle.live_board.specs.Words.{word_at, word_of}
-use Rattle.live_board.specs.Live.{number_at, explained, explained_after, all_done, AreCareful, AreTimed, looked_from, marked_from, finds_empty}
-use Rattle.live_board.specs.inside.Parts.{IsShadow, IsStep, IsFirst, IsFinished, IsTick, AreDirectAt, IsTickFrom, SlotGrows, SlotFills, WordsGrow, AreKept}
-use Rattle.live_board.proofs.DirectTicks.{own-tick, rest-due}
+use Rattle.live_board.specs.Live.{number_at, explained, explained_after, all_done, AreCareful, IsShown, AreLooks, AreTimed, looked_from, marked_from, has_processor, finds_empty, ArePlaced}
+use Rattle.live_board.specs.inside.Parts.{IsShadow, IsStep, IsWatched, IsFirst, IsFinished, IsTick, AreDirectAt, IsTickFrom, SlotGrows, SlotFills, WordsGrow, AreKept}
+use Rattle.live_board.proofs.DirectTicks.{own-tick, rest-due, rest-back}
 use Rattle.live_board.proofs.Finished.{finished-none}
 use Rattle.live_board.proofs.Grown.{Grows, Any, grows-ticked, slot-same, slot-trans, fills-same, fills-trans, still-occupied}
 use Rattle.live_board.proofs.Joined as runs
@@ -73,6 +75,13 @@ tick-grows s now event reply notices (moment, e) is sound =
     subst (Grows (processors s) Any s) (sym (ap (λ (o : Outcome). o.0) (is ∙ ap (step s) e)))
     (grows-ticked (processors s) s moment (kept_from_sound s sound))
 
+tick-few : (event : Event) → IsTick event → most_notices event ≤ 192
+tick-few event (moment, is) = subst (λ (e : Event). most_notices e ≤ 192) (sym is) (omega arith)
+
+-- no processor is owed an EOM
+pub none-owed : (p : ℕ) → has_processor 0 p ≡ false
+none-owed p = ap (λ n. n == 1) (bit_at-zero p)
+
 tick-stays : (s now : State) (event : Event) (reply : Reply) (notices : List Notice) → IsTick event → IsSound s
     → (now, reply, notices) ≡ step s event → processors now ≡ processors s
 tick-stays s now event reply notices (moment, e) sound is =
@@ -80,23 +89,24 @@ tick-stays s now event reply notices (moment, e) sound is =
 
 -- the tick itself
 pub tick-base : (s now : State) (k : ℕ) (pages : List (List Access)) (event : Event) (reply : Reply)
-    (owed : List Bool) (before after : List Notice) → k ≡ processors s → IsTick event → IsSound s
-    → IsStep s event now reply before after → length owed ≡ 8
-    → ((p : ℕ) → get_or owed p false ≡ false) → IsTickFrom s k 0 pages event now pages reply owed before after []
+    (before after : List Notice) → k ≡ processors s → IsTick event → IsSound s
+    → IsStep s event now reply before after → IsTickFrom s k 0 pages event now pages reply 0 before after
 unfolding run_of
-tick-base s now k pages event reply owed before after all tick sound one eight none = record {
+tick-base s now k pages event reply before after all tick sound one = record {
   looks = λ _. [];
   stores = λ _. [];
   marks = λ _. [];
   emitted = one.emitted;
   notices = one.notices;
-  few = omega arith;
-  are = λ p le less. absurd (omega (arith, le, less));
+  few = omega (arith, one.bound, tick-few event tick);
+  posted = λ p le less. absurd (omega (arith, le, less));
+  direct = λ p le less. absurd (omega (arith, le, less));
   logs = λ p le less. absurd (omega (arith, le, less));
   lower = λ p _. refl;
   flags = λ p. refl;
   size = refl;
-  run = ap (λ (o : Outcome). (o.0, o.1 ∷ [], o.2 ++ [])) (sym one.step);
+  run = ap (λ (o : Outcome). (o.0, o.1 ∷ [], o.2 ++ [])) (sym one.step)
+      ∙ ap (λ (ns : List Notice). (now, reply ∷ [], ns)) (append-nil one.emitted);
   shadow = λ p le less. absurd (omega (arith, le, less));
   regs = g.regs;
   guest = g.pages;
@@ -105,11 +115,10 @@ tick-base s now k pages event reply owed before after all tick sound one eight n
   odd = λ p x low. ap (λ l. word_at l (8 * x)) (g.others (2 * p + 1) (λ may. omega (arith, may.1)));
   slots = λ p i less under full. g.slots p i (omega (arith, less, all)) under full;
   fills = λ p i less under empty. g.fills p i (omega (arith, less, all)) under empty;
-  eight = eight;
   owes = λ p le less. absurd (omega (arith, le, less));
-  unowed = λ p _. none p;
+  unowed = λ p _. none-owed p;
+  beyond = λ p _. none-owed p;
   still = λ p _ direct. own-tick s now p event reply one.emitted direct sound one.step;
-  direct = λ p le less. absurd (omega (arith, le, less));
 }
   where
     g : Grows (processors s) Any s now
@@ -117,12 +126,12 @@ tick-base s now k pages event reply owed before after all tick sound one eight n
 
 -- in the message page of the processor before, the inner tick sets at most MessagePending in occupied slots
 pub tick-leaves : (s s1 s2 : State) (v k m : ℕ) (pages pages2 : List (List Access)) (log log1 : List Access)
-    (words : List ℕ) (event : Event) (reply : Reply) (owed : List Bool) (before between after late : List Notice)
+    (words : List ℕ) (event : Event) (reply : Reply) (owed : ℕ) (before between after : List Notice)
     → v ≡ k → k < processors s
     → IsFirst s v log s1 log1 before between → ((x : ℕ) → x < 512 → get_or words x 0 ≡ word_of s1 (2 * v) x)
-    → IsTickFrom s1 (k + 1) m pages event s2 pages2 reply owed between after late → HasShape s1 → HasRanges s1
+    → IsTickFrom s1 (k + 1) m pages event s2 pages2 reply owed between after → HasShape s1 → HasRanges s1
     → HasShape s2 → HasRanges s2 → WordsGrow s2 v words × AreKept s2 v words
-tick-leaves s s1 s2 v k m pages pages2 log log1 words event reply owed before between after late same less first are
+tick-leaves s s1 s2 v k m pages pages2 log log1 words event reply owed before between after same less first are
     inner shape ranges shape2 ranges2 = (
       words-grow s1 s2 v words are slots shape ranges on,
       kept-grown s1 s2 v words shape ranges shape2 ranges2 on (omega (arith, on, inner.processors)) are slots
@@ -160,16 +169,64 @@ run-three s s1 s2 s3 a b c d event reply first second third one two three =
         ∙ append_assoc (all_done a) (all_done b) (reply ∷ (all_done c ++ all_done d))
         ∙ ap (λ l. all_done a ++ l) (sym (append_assoc (all_done b) (reply ∷ all_done c) (all_done d)))
 
+-- what happens at a page before the tick: looks, if a timer in message mode is due there, and nothing otherwise
+pub record Begins (s : State) (p : ℕ) (event : Event) (log : List Access) (now : State) (log-now : List Access)
+    (before after : List Notice) : Type 0 where
+  pub emitted : List Notice
+  pub notices : after ≡ before ++ emitted
+  pub few : length emitted ≤ 16
+  pub watched : IsWatched s p Sim log now log-now emitted
+  pub shown : (AreDirectAt s p event → ⊥) → IsShown s p Sim → AreLooks 16 watched.news
+  pub hidden : (IsShown s p Sim → ⊥) → watched.news ≡ []
+  pub none : AreDirectAt s p event → watched.news ≡ []
+
+begins-first : (s now : State) (p : ℕ) (event : Event) (log log-now : List Access) (before after : List Notice)
+    → (AreDirectAt s p event → ⊥) → IsFirst s p log now log-now before after
+    → Begins s p event log now log-now before after
+begins-first s now p event log log-now before after posted first = record {
+  emitted = first.emitted;
+  notices = first.notices;
+  few = first.viewed.few;
+  watched = first.viewed.watched;
+  shown = λ _. first.viewed.shown;
+  hidden = first.viewed.hidden;
+  none = λ direct. absurd (posted direct);
+}
+
+begins-none : (s : State) (p : ℕ) (event : Event) (log : List Access) (before : List Notice) → AreDirectAt s p event
+    → Begins s p event log s log before before
+unfolding run_of
+begins-none s p event log before direct = record {
+  emitted = [];
+  notices = sym (append-nil before);
+  few = omega arith;
+  watched = record {
+    news = [];
+    page = refl;
+    run = refl;
+    careful = tt;
+    rest = refl;
+    count = refl;
+    others = λ j x low ne. refl;
+    same = λ j ne. refl;
+  };
+  shown = λ posted. absurd (posted direct);
+  hidden = λ _. refl;
+  none = λ _. refl;
+}
+
 -- one page more
 module _ (s s1 s2 s3 : State) (k m : ℕ) (pages pages2 : List (List Access)) (log1 log3 : List Access) (event : Event)
-    (reply : Reply) (owed : List Bool) (owe : Bool) (before between after late2 late3 : List Notice)
-    (below : 2 * k < length pages) (few : k < 8)
-    (first : IsFirst s k (get_or pages (2 * k) []) s1 log1 before between)
-    (inner : IsTickFrom s1 (suc k) m (set pages (2 * k) log1) event s2 pages2 reply owed between after late2)
-    (last : IsFinished s2 k (get_or pages2 (2 * k) []) s3 log3 owe late2 late3)
-    (quiet : AreDirectAt s k event → (last.stores ≡ []) × (last.marks ≡ [])) where
+    (reply : Reply) (owed owed3 : ℕ) (owe : Bool) (before between after2 after3 : List Notice)
+    (below : 2 * k < length pages)
+    (first : Begins s k event (get_or pages (2 * k) []) s1 log1 before between)
+    (inner : IsTickFrom s1 (suc k) m (set pages (2 * k) log1) event s2 pages2 reply owed between after2)
+    (last : IsFinished s2 k (get_or pages2 (2 * k) []) s3 log3 owe after2 after3)
+    (quiet : AreDirectAt s k event → (last.stores ≡ []) × (last.marks ≡ []))
+    (owed-here : has_processor owed3 k ≡ owe)
+    (owed-other : (p : ℕ) → p ≢ k → has_processor owed3 p ≡ has_processor owed p) where
   looks : ℕ → List Access
-  looks p = if p == k then first.viewed.watched.news else inner.looks p
+  looks p = if p == k then first.watched.news else inner.looks p
 
   stores : ℕ → List Access
   stores p = if p == k then last.stores else inner.stores p
@@ -183,79 +240,84 @@ module _ (s s1 s2 s3 : State) (k m : ℕ) (pages pages2 : List (List Access)) (l
   pages1 : List (List Access)
   pages1 = set pages (2 * k) log1
 
-  log-here : get_or pages2 (2 * k) [] ≡ first.viewed.watched.news ++ get_or pages (2 * k) []
+  log-here : get_or pages2 (2 * k) [] ≡ first.watched.news ++ get_or pages (2 * k) []
   unfolding pages1
-  log-here = inner.lower k (omega arith) ∙ get_or-set_same pages (2 * k) log1 [] below ∙ first.viewed.watched.page
+  log-here = inner.lower k (omega arith) ∙ get_or-set_same pages (2 * k) log1 [] below ∙ first.watched.page
 
   log-other : (p : ℕ) → p ≢ k → get_or pages1 (2 * p) [] ≡ get_or pages (2 * p) []
   unfolding pages1
   log-other p ne = get_or-set_other pages (2 * k) (2 * p) log1 [] (apart p ne)
 
   rest-regs : s1.regs ≡ s.regs
-  rest-regs = ap (λ (t : State). t.regs) first.viewed.watched.rest
+  rest-regs = ap (λ (t : State). t.regs) first.watched.rest
 
   rest-pages : s1.pages ≡ s.pages
-  rest-pages = ap (λ (t : State). t.pages) first.viewed.watched.rest
+  rest-pages = ap (λ (t : State). t.pages) first.watched.rest
 
   number1 : (p : ℕ) → number_at s1 p Sim ≡ number_at s p Sim
-  number1 p = runs.rest-number s s1 p Sim first.viewed.watched.rest
+  number1 p = runs.rest-number s s1 p Sim first.watched.rest
 
   number2 : number_at s2 k Sim ≡ number_at s k Sim
   number2 = ap (λ (rs : List Regs). page_in (get_or rs k reset_regs).sim) (inner.regs ∙ rest-regs)
 
-  are-here : AreTimed s k first.viewed.watched.news last.stores last.marks (get_or pages (2 * k) [])
-  are-here = record {
-    shown = first.viewed.shown;
+  are-here : (AreDirectAt s k event → ⊥)
+      → AreTimed s k first.watched.news last.stores last.marks (get_or pages (2 * k) [])
+  are-here posted = record {
+    shown = first.shown posted;
     hidden = λ no. (
-      first.viewed.hidden no,
+      first.hidden no,
       last.hidden (λ shown. no
           (shown-same s2 s k (sym (inner.regs ∙ rest-regs)) (sym (inner.guest ∙ rest-pages)) shown)),
     );
     stored = last.stored;
+    placed = subst (λ l. ArePlaced 16 l last.stores) log-here last.placed;
     marked = last.marked;
     careful = λ shown. subst (AreCareful Sim last.stores) log-here
         (last.careful (shown-same s s2 k (inner.regs ∙ rest-regs) (inner.guest ∙ rest-pages) shown));
   }
 
-  are-other : (p : ℕ) → p ≢ k → suc k ≤ p → p < suc k + m
+  are-other : (p : ℕ) → p ≢ k → suc k ≤ p → p < suc k + m → (AreDirectAt s p event → ⊥)
       → AreTimed s p (inner.looks p) (inner.stores p) (inner.marks p) (get_or pages (2 * p) [])
   unfolding pages1
-  are-other p ne le less =
-      let a = inner.are p le less in
+  are-other p ne le less posted =
+      let a = inner.posted p le less
+      (λ direct. posted (rest-due s1 s p event (rest-back s s1 first.watched.rest) direct)) in
       record {
         shown = λ shown. a.shown (shown-same s s1 p rest-regs rest-pages shown);
         hidden = λ no. a.hidden (λ shown. no (shown-same s1 s p (sym rest-regs) (sym rest-pages) shown));
         stored = a.stored;
+        placed = subst (λ l. ArePlaced 16 (inner.looks p ++ l) (inner.stores p)) (log-other p ne) a.placed;
         marked = a.marked;
         careful = λ shown. subst (λ l. AreCareful Sim (inner.stores p) (inner.looks p ++ l)) (log-other p ne)
             (a.careful (shown-same s s1 p rest-regs rest-pages shown));
       }
 
-  are : (p : ℕ) → k ≤ p → p < k + suc m → AreTimed s p (looks p) (stores p) (marks p) (get_or pages (2 * p) [])
+  are : (p : ℕ) → k ≤ p → p < k + suc m → (AreDirectAt s p event → ⊥)
+      → AreTimed s p (looks p) (stores p) (marks p) (get_or pages (2 * p) [])
   unfolding looks stores marks
-  are p le less = by (cases_eq p k)
+  are p le less posted = by (cases_eq p k)
     where
-      by : (p ≡ k) ⊎ (p ≢ k) → AreTimed s p (if p == k then first.viewed.watched.news else inner.looks p)
+      by : (p ≡ k) ⊎ (p ≢ k) → AreTimed s p (if p == k then first.watched.news else inner.looks p)
           (if p == k then last.stores else inner.stores p) (if p == k then last.marks else inner.marks p)
           (get_or pages (2 * p) [])
       by (inl e) =
-          subst (λ b. AreTimed s p (if b then first.viewed.watched.news else inner.looks p)
+          subst (λ b. AreTimed s p (if b then first.watched.news else inner.looks p)
           (if b then last.stores else inner.stores p) (if b then last.marks else inner.marks p)
           (get_or pages (2 * p) [])) (sym (same-true p k e))
-          (subst (λ q. AreTimed s q first.viewed.watched.news last.stores last.marks (get_or pages (2 * q) []))
-          (sym e) are-here)
+          (subst (λ q. AreTimed s q first.watched.news last.stores last.marks (get_or pages (2 * q) []))
+          (sym e) (are-here (λ direct. posted (subst (λ q. AreDirectAt s q event) (sym e) direct))))
       by (inr ne) =
-          subst (λ b. AreTimed s p (if b then first.viewed.watched.news else inner.looks p)
+          subst (λ b. AreTimed s p (if b then first.watched.news else inner.looks p)
           (if b then last.stores else inner.stores p) (if b then last.marks else inner.marks p)
           (get_or pages (2 * p) [])) (sym (other-false p k ne))
-          (are-other p ne (omega (arith, le, ne)) (omega (arith, less)))
+          (are-other p ne (omega (arith, le, ne)) (omega (arith, less)) posted)
 
   abbrev HasLogs : ℕ → Bool → Type 0
   HasLogs q b =
       get_or (set pages2 (2 * k) log3) (2 * q) []
       ≡ (if b then last.marks else inner.marks q)
       ++ ((if b then last.stores else inner.stores q)
-      ++ ((if b then first.viewed.watched.news else inner.looks q) ++ get_or pages (2 * q) []))
+      ++ ((if b then first.watched.news else inner.looks q) ++ get_or pages (2 * q) []))
 
   logs : (p : ℕ) → k ≤ p → p < k + suc m
       → get_or (set pages2 (2 * k) log3) (2 * p) [] ≡ marks p ++ (stores p ++ (looks p ++ get_or pages (2 * p) []))
@@ -271,9 +333,9 @@ module _ (s s1 s2 s3 : State) (k m : ℕ) (pages pages2 : List (List Access)) (l
           ∙ inner.logs p (omega (arith, le, ne)) (omega (arith, less))
           ∙ ap (λ l. inner.marks p ++ (inner.stores p ++ (inner.looks p ++ l))) (log-other p ne))
 
-  looks-here : looks k ≡ first.viewed.watched.news
+  looks-here : looks k ≡ first.watched.news
   unfolding looks
-  looks-here = ap (λ b. if b then first.viewed.watched.news else inner.looks k) (same-true k k refl)
+  looks-here = ap (λ b. if b then first.watched.news else inner.looks k) (same-true k k refl)
 
   stores-here : stores k ≡ last.stores
   unfolding stores
@@ -286,7 +348,7 @@ module _ (s s1 s2 s3 : State) (k m : ℕ) (pages pages2 : List (List Access)) (l
   looks-other : (p : ℕ) → suc k ≤ p → inner.looks p ≡ looks p
   unfolding looks
   looks-other p le =
-      sym (ap (λ b. if b then first.viewed.watched.news else inner.looks p)
+      sym (ap (λ b. if b then first.watched.news else inner.looks p)
       (other-false p k (λ e. omega (arith, e, le))))
 
   stores-other : (p : ℕ) → suc k ≤ p → inner.stores p ≡ stores p
@@ -300,7 +362,7 @@ module _ (s s1 s2 s3 : State) (k m : ℕ) (pages pages2 : List (List Access)) (l
       sym (ap (λ b. if b then last.marks else inner.marks p) (other-false p k (λ e. omega (arith, e, le))))
 
   e1 : List Event
-  e1 = explained s k Sim first.viewed.watched.news (get_or pages (2 * k) [])
+  e1 = explained s k Sim first.watched.news (get_or pages (2 * k) [])
 
   m1 : List Event
   m1 = explained_after s2 k last.marks (last.stores ++ get_or pages2 (2 * k) [])
@@ -328,21 +390,20 @@ module _ (s s1 s2 s3 : State) (k m : ℕ) (pages pages2 : List (List Access)) (l
         s3,
         all_done (looked_from s pages looks k (suc m))
             ++ reply ∷ all_done (marked_from s pages looks stores marks k (suc m)),
-        (first.emitted ++ inner.emitted) ++ late3,
+        first.emitted ++ (inner.emitted ++ last.emitted),
       )
   unfolding e1 m1 pages1
   run =
       let le : List Event = looked_from s1 pages1 inner.looks (suc k) m in
       let me : List Event = marked_from s1 pages1 inner.looks inner.stores inner.marks (suc k) m in
-      let notices : (first.emitted ++ ((inner.emitted ++ late2) ++ last.emitted))
-      ≡ (first.emitted ++ inner.emitted) ++ late3 =
-      ap (λ l. first.emitted ++ l) (append_assoc inner.emitted late2 last.emitted)
-      ∙ sym (append_assoc first.emitted inner.emitted (late2 ++ last.emitted))
-      ∙ ap (λ l. (first.emitted ++ inner.emitted) ++ l) (sym last.notices) in
       (λ i. run_of s (looked i ++ event ∷ marked i))
-      ∙ run-three s s1 s2 s3 e1 le me m1 event reply first.emitted
-      (inner.emitted ++ late2) last.emitted first.viewed.watched.run inner.run last.run
-      ∙ (λ i. (s3, all_done (sym looked i) ++ reply ∷ all_done (sym marked i), notices i))
+      ∙ run-three s s1 s2 s3 e1 le me m1 event reply first.emitted inner.emitted last.emitted first.watched.run
+      inner.run last.run
+      ∙ (λ i. (
+        s3,
+        all_done (sym looked i) ++ reply ∷ all_done (sym marked i),
+        first.emitted ++ (inner.emitted ++ last.emitted),
+      ))
 
   shadow : (p : ℕ) → k ≤ p → p < k + suc m → IsShadow s3 (2 * p) (get_or (set pages2 (2 * k) log3) (2 * p) [])
   shadow p le less = by (cases_eq p k)
@@ -359,71 +420,77 @@ module _ (s s1 s2 s3 : State) (k m : ℕ) (pages pages2 : List (List Access)) (l
   slots : (p i : ℕ) → p < k → i < 16 → is_slot_empty s p i ≡ false → SlotGrows s p i s3
   slots p i less under full =
       let other : 2 * p ≢ 2 * k = λ e. omega (arith, e, less) in
-      let a = slot-same s s1 p i (first.viewed.watched.same (2 * p) other) in
+      let a = slot-same s s1 p i (first.watched.same (2 * p) other) in
       let b = inner.slots p i (omega (arith, less)) under (still-occupied s s1 p i a ∙ full) in
       slot-trans s s2 s3 p i (slot-trans s s1 s2 p i a b) (slot-same s2 s3 p i (last.same (2 * p) other))
 
   fills : (p i : ℕ) → p < k → i < 16 → is_slot_empty s p i ≡ true → SlotFills s p i s3
   fills p i less under empty =
       let other : 2 * p ≢ 2 * k = λ e. omega (arith, e, less) in
-      let a = slot-same s s1 p i (first.viewed.watched.same (2 * p) other) in
+      let a = slot-same s s1 p i (first.watched.same (2 * p) other) in
       let c = last.same (2 * p) other in
       fills-trans s s2 s3 p i empty
-      (fills-trans s s1 s2 p i empty (fills-same s s1 p i (first.viewed.watched.same (2 * p) other))
+      (fills-trans s s1 s2 p i empty (fills-same s s1 p i (first.watched.same (2 * p) other))
       (inner.fills p i (omega (arith, less)) under) (inner.slots p i (omega (arith, less)) under))
       (λ _. fills-same s2 s3 p i c) (λ _. slot-same s2 s3 p i c)
 
-  owes : (p : ℕ) → k ≤ p → p < k + suc m → get_or (set owed k owe) p false ≡ finds_empty (marks p)
+  owes : (p : ℕ) → k ≤ p → p < k + suc m → has_processor owed3 p ≡ finds_empty (marks p)
   unfolding marks
   owes p le less = by (cases_eq p k)
     where
-      by : (p ≡ k) ⊎ (p ≢ k) → get_or (set owed k owe) p false
-          ≡ finds_empty (if p == k then last.marks else inner.marks p)
+      by : (p ≡ k) ⊎ (p ≢ k)
+          → has_processor owed3 p ≡ finds_empty (if p == k then last.marks else inner.marks p)
       by (inl e) =
-          ap (λ q. get_or (set owed k owe) q false) e
-          ∙ get_or-set_same owed k owe false (omega (arith, inner.eight, few)) ∙ last.owes
+          ap (has_processor owed3) e ∙ owed-here ∙ last.owes
           ∙ ap (λ b. finds_empty (if b then last.marks else inner.marks p)) (sym (same-true p k e))
       by (inr ne) =
-          get_or-set_other owed k p owe false ne ∙ inner.owes p (omega (arith, le, ne)) (omega (arith, less))
+          owed-other p ne ∙ inner.owes p (omega (arith, le, ne)) (omega (arith, less))
           ∙ ap (λ b. finds_empty (if b then last.marks else inner.marks p)) (sym (other-false p k ne))
-
-  unowed : (p : ℕ) → p < k → get_or (set owed k owe) p false ≡ false
-  unowed p less =
-      get_or-set_other owed k p owe false (λ e. omega (arith, e, less)) ∙ inner.unowed p (omega (arith, less))
 
   still : (p : ℕ) → p < k → AreDirectAt s p event → get_or s3.own (2 * p) [] ≡ get_or s.own (2 * p) []
   still p less direct =
       let other : 2 * p ≢ 2 * k = λ e. omega (arith, e, less) in
       last.same (2 * p) other ∙ inner.still p (omega (arith, less))
-      (rest-due s s1 p event first.viewed.watched.rest direct) ∙ first.viewed.watched.same (2 * p) other
+      (rest-due s s1 p event first.watched.rest direct) ∙ first.watched.same (2 * p) other
 
-  direct : (p : ℕ) → k ≤ p → p < k + suc m → AreDirectAt s p event → (stores p ≡ []) × (marks p ≡ [])
-  unfolding stores marks
+  abbrev AreNone : ℕ → Bool → Type 0
+  AreNone p b =
+      ((if b then first.watched.news else inner.looks p) ≡ []) × ((if b then last.stores else inner.stores p) ≡ [])
+      × ((if b then last.marks else inner.marks p) ≡ [])
+
+  direct : (p : ℕ) → k ≤ p → p < k + suc m → AreDirectAt s p event → (looks p ≡ []) × (stores p ≡ []) × (marks p ≡ [])
+  unfolding looks stores marks
   direct p le less at = by (cases_eq p k)
     where
-      by : (p ≡ k) ⊎ (p ≢ k) → ((if p == k then last.stores else inner.stores p) ≡ [])
-          × ((if p == k then last.marks else inner.marks p) ≡ [])
+      by : (p ≡ k) ⊎ (p ≢ k) → AreNone p (p == k)
       by (inl e) =
-          let none = quiet (subst (λ q. AreDirectAt s q event) e at) in
-          subst (λ b. ((if b then last.stores else inner.stores p) ≡ [])
-          × ((if b then last.marks else inner.marks p) ≡ [])) (sym (same-true p k e)) none
+          let here = subst (λ q. AreDirectAt s q event) e at in
+          subst (AreNone p) (sym (same-true p k e)) (first.none here, (quiet here).0, (quiet here).1)
       by (inr ne) =
-          let none = inner.direct p (omega (arith, le, ne)) (omega (arith, less))
-          (rest-due s s1 p event first.viewed.watched.rest at) in
-          subst (λ b. ((if b then last.stores else inner.stores p) ≡ [])
-          × ((if b then last.marks else inner.marks p) ≡ [])) (sym (other-false p k ne)) none
+          subst (AreNone p) (sym (other-false p k ne)) (inner.direct p (omega (arith, le, ne)) (omega (arith, less))
+          (rest-due s s1 p event first.watched.rest at))
 
-  pub tick-step : IsTickFrom s k (suc m) pages event s3 (set pages2 (2 * k) log3) reply
-      (set owed k owe) before after late3
+  pub tick-step : IsTickFrom s k (suc m) pages event s3 (set pages2 (2 * k) log3) reply owed3 before after3
   tick-step = record {
     looks = looks;
     stores = stores;
     marks = marks;
-    emitted = first.emitted ++ inner.emitted;
-    notices = inner.notices ∙ ap (λ ns. ns ++ inner.emitted) first.notices
-        ∙ append_assoc before first.emitted inner.emitted;
-    few = omega (arith, inner.few, last.few, ap length last.notices, length-append late2 last.emitted);
-    are = are;
+    emitted = first.emitted ++ (inner.emitted ++ last.emitted);
+    notices = last.notices
+        ∙ ap (λ ns. ns ++ last.emitted) (inner.notices ∙ ap (λ ns. ns ++ inner.emitted) first.notices)
+        ∙ ap (λ ns. ns ++ last.emitted) (append_assoc before first.emitted inner.emitted)
+        ∙ append_assoc before (first.emitted ++ inner.emitted) last.emitted
+        ∙ ap (λ ns. before ++ ns) (append_assoc first.emitted inner.emitted last.emitted);
+    few = omega (
+      arith,
+      first.few,
+      inner.few,
+      last.few,
+      length-append first.emitted (inner.emitted ++ last.emitted),
+      length-append inner.emitted last.emitted,
+    );
+    posted = are;
+    direct = direct;
     logs = logs;
     lower = λ p less. (let other : 2 * p ≢ 2 * k = λ e. omega (arith, e, less) in
         get_or-set_other pages2 (2 * k) (2 * p) log3 [] other ∙ inner.lower p (omega (arith, less))
@@ -436,88 +503,80 @@ module _ (s s1 s2 s3 : State) (k m : ℕ) (pages pages2 : List (List Access)) (l
     shadow = shadow;
     regs = ap (λ (t : State). t.regs) last.rest ∙ inner.regs ∙ rest-regs;
     guest = ap (λ (t : State). t.pages) last.rest ∙ inner.guest ∙ rest-pages;
-    count = last.count ∙ inner.count ∙ first.viewed.watched.count;
+    count = last.count ∙ inner.count ∙ first.watched.count;
     processors =
         ap (λ (t : State). length t.apics) last.rest ∙ inner.processors
-        ∙ ap (λ (t : State). length t.apics) first.viewed.watched.rest;
+        ∙ ap (λ (t : State). length t.apics) first.watched.rest;
     odd = λ p x low. (let other : 2 * p + 1 ≢ 2 * k = λ e. omega (arith, e) in
-        last.others (2 * p + 1) x low other ∙ inner.odd p x low ∙ first.viewed.watched.others (2 * p + 1) x low other);
+        last.others (2 * p + 1) x low other ∙ inner.odd p x low ∙ first.watched.others (2 * p + 1) x low other);
     slots = slots;
     fills = fills;
-    eight = length-set owed k owe ∙ inner.eight;
     owes = owes;
-    unowed = unowed;
+    unowed = λ p less. owed-other p (λ e. omega (arith, e, less)) ∙ inner.unowed p (omega (arith, less));
+    beyond = λ p le. owed-other p (λ e. omega (arith, e, le)) ∙ inner.beyond p (omega (arith, le));
     still = still;
-    direct = direct;
   }
 
 -- the same, with the numbers and pages of a call
-pub tick-step-at : (s s1 s2 s3 : State) (k m total v i j : ℕ) (pages pages2 : List (List Access))
-    (page1 page2 log1 log3 : List Access) (event : Event) (reply : Reply) (owed : List Bool) (owe : Bool)
-    (before between after late2 late3 : List Notice)
-    → v ≡ k → i ≡ 2 * k → j ≡ k → page1 ≡ get_or pages (2 * k) [] → page2 ≡ get_or pages2 (2 * k) [] → total ≡ suc m
-    → 2 * k < length pages → k < 8
-    → (AreDirectAt s v event → ⊥) → IsFirst s v page1 s1 log1 before between
-    → IsTickFrom s1 (k + 1) m (set pages i log1) event s2 pages2 reply owed between after late2
-    → IsFinished s2 v page2 s3 log3 owe late2 late3
-    → IsTickFrom s k total pages event s3 (set pages2 i log3) reply (set owed j owe) before after late3
-tick-step-at s s1 s2 s3 k m total v i j pages pages2 page1 page2 log1 log3 event reply owed owe before between after
-    late2 late3 a b c d e f below few posted first inner last =
+pub tick-step-at : (s s1 s2 s3 : State) (k m total v i : ℕ) (pages pages2 : List (List Access))
+    (page1 page2 log1 log3 : List Access) (event : Event) (reply : Reply) (owed owed3 : ℕ) (owe : Bool)
+    (before between after2 after3 : List Notice)
+    → v ≡ k → i ≡ 2 * k → page1 ≡ get_or pages (2 * k) [] → page2 ≡ get_or pages2 (2 * k) [] → total ≡ suc m
+    → 2 * k < length pages → (AreDirectAt s v event → ⊥) → IsFirst s v page1 s1 log1 before between
+    → IsTickFrom s1 (k + 1) m (set pages i log1) event s2 pages2 reply owed between after2
+    → IsFinished s2 v page2 s3 log3 owe after2 after3 → has_processor owed3 v ≡ owe
+    → ((p : ℕ) → p ≢ v → has_processor owed3 p ≡ has_processor owed p)
+    → IsTickFrom s k total pages event s3 (set pages2 i log3) reply owed3 before after3
+tick-step-at s s1 s2 s3 k m total v i pages pages2 page1 page2 log1 log3 event reply owed owed3 owe before between
+    after2 after3 a b d e f below posted first inner last here other =
     let first-at =
     subst (λ q. IsFirst s q (get_or pages (2 * k) []) s1 log1 before between) a
     (subst (λ l. IsFirst s v l s1 log1 before between) d first) in
+    let posted-at : AreDirectAt s k event → ⊥ = λ at. posted (subst (λ q. AreDirectAt s q event) (sym a) at) in
     let inner-at =
-    subst (λ n. IsTickFrom s1 n m (set pages (2 * k) log1) event s2 pages2 reply owed between after late2)
+    subst (λ n. IsTickFrom s1 n m (set pages (2 * k) log1) event s2 pages2 reply owed between after2)
     (let one : k + 1 ≡ suc k = omega arith in one)
-    (subst (λ n. IsTickFrom s1 (k + 1) m (set pages n log1) event s2 pages2 reply owed between after late2) b inner) in
+    (subst (λ n. IsTickFrom s1 (k + 1) m (set pages n log1) event s2 pages2 reply owed between after2) b inner) in
     let last-at =
-    subst (λ q. IsFinished s2 q (get_or pages2 (2 * k) []) s3 log3 owe late2 late3) a
-    (subst (λ l. IsFinished s2 v l s3 log3 owe late2 late3) e last) in
-    subst (λ n. IsTickFrom s k n pages event s3 (set pages2 i log3) reply (set owed j owe) before after late3) (sym f)
-    (subst (λ n. IsTickFrom s k (suc m) pages event s3 (set pages2 n log3) reply (set owed j owe) before after late3)
+    subst (λ q. IsFinished s2 q (get_or pages2 (2 * k) []) s3 log3 owe after2 after3) a
+    (subst (λ l. IsFinished s2 v l s3 log3 owe after2 after3) e last) in
+    subst (λ n. IsTickFrom s k n pages event s3 (set pages2 i log3) reply owed3 before after3) (sym f)
+    (subst (λ n. IsTickFrom s k (suc m) pages event s3 (set pages2 n log3) reply owed3 before after3)
     (sym b)
-    (subst (λ n. IsTickFrom s k (suc m) pages event s3 (set pages2 (2 * k) log3) reply
-    (set owed n owe) before after late3) (sym c)
-    (tick-step s s1 s2 s3 k m pages pages2 log1 log3 event reply owed owe before between after late2 late3 below few
-    first-at inner-at last-at (λ at. absurd (posted (subst (λ q. AreDirectAt s q event) (sym a) at))))))
+    (tick-step s s1 s2 s3 k m pages pages2 log1 log3 event reply owed owed3 owe before between after2 after3 below
+    (begins-first s s1 k event _ log1 before between posted-at first-at) inner-at last-at
+    (λ at. absurd (posted-at at)) (ap (has_processor owed3) (sym a) ∙ here)
+    (λ p ne. other p (λ same. ne (same ∙ a)))))
 
--- one page more, at which the event stores and marks nothing
-pub tick-skip : (s s1 s2 : State) (k m total v i : ℕ) (pages pages2 : List (List Access)) (page1 log1 : List Access)
-    (event : Event) (reply : Reply) (owed : List Bool) (before between after late : List Notice)
-    → v ≡ k → i ≡ 2 * k → page1 ≡ get_or pages (2 * k) [] → total ≡ suc m → 2 * k < length pages → k < 8
-    → AreDirectAt s v event → IsFirst s v page1 s1 log1 before between
-    → IsTickFrom s1 (k + 1) m (set pages i log1) event s2 pages2 reply owed between after late
-    → IsTickFrom s k total pages event s2 pages2 reply owed before after late
-tick-skip s s1 s2 k m total v i pages pages2 page1 log1 event reply owed before between after late a b d f below few
-    direct first inner =
-    subst (λ n. IsTickFrom s k n pages event s2 pages2 reply owed before after late) (sym f)
-    (subst (λ bs. IsTickFrom s k (suc m) pages event s2 pages2 reply bs before after late) unowed
-    (subst (λ ps. IsTickFrom s k (suc m) pages event s2 ps reply (set owed k false) before after late)
-    (set-get_or pages2 (2 * k) [])
-    (tick-step s s1 s2 s2 k m pages pages2 log1
-    (get_or pages2 (2 * k) []) event reply owed false before between after late late below few first-at inner-at
-    none.0 (λ _. (none.1, none.2)))))
+-- one page more, at which no timer in message mode is due
+pub tick-skip : (s s2 : State) (k m total v : ℕ) (pages pages2 : List (List Access)) (event : Event) (reply : Reply)
+    (owed : ℕ) (before after : List Notice) → v ≡ k → total ≡ suc m → 2 * k < length pages
+    → AreDirectAt s v event → IsShadow s (2 * k) (get_or pages (2 * k) [])
+    → IsTickFrom s (k + 1) m pages event s2 pages2 reply owed before after
+    → IsTickFrom s k total pages event s2 pages2 reply owed before after
+tick-skip s s2 k m total v pages pages2 event reply owed before after a f below direct same inner =
+    subst (λ n. IsTickFrom s k n pages event s2 pages2 reply owed before after) (sym f)
+    (subst (λ ps. IsTickFrom s k (suc m) pages event s2 ps reply owed before after) (set-get_or pages2 (2 * k) [])
+    (tick-step s s s2 s2 k m pages pages2 (get_or pages (2 * k) []) (get_or pages2 (2 * k) []) event reply owed owed
+    false before before after after below (begins-none s k event _ before direct-at) inner-at none.0
+    (λ _. (none.1, none.2)) (inner-at.unowed k (omega arith)) (λ p ne. refl)))
   where
-    first-at : IsFirst s k (get_or pages (2 * k) []) s1 log1 before between
-    first-at = subst (λ q. IsFirst s q (get_or pages (2 * k) []) s1 log1 before between) a
-        (subst (λ l. IsFirst s v l s1 log1 before between) d first)
+    direct-at : AreDirectAt s k event
+    direct-at = subst (λ q. AreDirectAt s q event) a direct
 
-    inner-at : IsTickFrom s1 (suc k) m (set pages (2 * k) log1) event s2 pages2 reply owed between after late
-    inner-at = subst (λ n. IsTickFrom s1 n m (set pages (2 * k) log1) event s2 pages2 reply owed between after late)
-        (let one : k + 1 ≡ suc k = omega arith in one)
-        (subst (λ n. IsTickFrom s1 (k + 1) m (set pages n log1) event s2 pages2 reply owed between after late) b inner)
+    inner-at : IsTickFrom s (suc k) m (set pages (2 * k) (get_or pages (2 * k) [])) event s2 pages2 reply owed before
+        after
+    inner-at = subst (λ ps. IsTickFrom s (suc k) m ps event s2 pages2 reply owed before after)
+        (sym (set-get_or pages (2 * k) []))
+        (subst (λ n. IsTickFrom s n m pages event s2 pages2 reply owed before after)
+        (let one : k + 1 ≡ suc k = omega arith in one) inner)
 
     shadow : IsShadow s2 (2 * k) (get_or pages2 (2 * k) [])
     shadow x low =
-        ap (λ l. known l x) (inner-at.lower k (omega arith) ∙ get_or-set_same pages (2 * k) log1 [] below)
-        ∙ first-at.viewed.shadow x low
-        ∙ ap (λ l. word_at l (8 * x))
-        (sym (inner-at.still k (omega arith)
-        (rest-due s s1 k event first-at.viewed.watched.rest (subst (λ q. AreDirectAt s q event) a direct))))
+        ap (λ l. known l x) (inner-at.lower k (omega arith)
+        ∙ ap (λ ps. get_or ps (2 * k) []) (set-get_or pages (2 * k) [])) ∙ same x low
+        ∙ ap (λ l. word_at l (8 * x)) (sym (inner-at.still k (omega arith) direct-at))
 
-    none : (one : IsFinished s2 k (get_or pages2 (2 * k) []) s2 (get_or pages2 (2 * k) []) false late late)
+    none : (one : IsFinished s2 k (get_or pages2 (2 * k) []) s2 (get_or pages2 (2 * k) []) false after after)
         × (one.stores ≡ []) × (one.marks ≡ [])
-    none = finished-none s2 k (get_or pages2 (2 * k) []) late shadow
-
-    unowed : set owed k false ≡ owed
-    unowed = ap (set owed k) (sym (inner-at.unowed k (omega arith))) ∙ set-get_or owed k false
+    none = finished-none s2 k (get_or pages2 (2 * k) []) after shadow

@@ -35,8 +35,8 @@ use Rattle.synic_board.proofs.keeping.Wholes.{kept_from_sound}
 use Rattle.live_pages.specs.Slot.{known, type_of}
 use Rattle.live_pages.specs.declared.access.Access.{Access}
 use Rattle.live_board.specs.Words.{word_at, word_of}
-use Rattle.live_board.specs.Timers.{is_timer_register, is_timer_write, is_direct_write}
-use Rattle.live_board.specs.Live.{explained, explained_after, all_done, number_at, AreCareful, IsShown}
+use Rattle.live_board.specs.Timers.{is_timer_register, is_timer_write}
+use Rattle.live_board.specs.Live.{explained, explained_after, all_done, number_at, AreCareful, IsShown, ArePlaced}
 use Rattle.live_board.specs.inside.Parts.{IsStep, IsLooks, IsPublished, MayBeMarked, IsMarking, IsTimedPart, IsTimerOf, SlotGrows, WordsGrow}
 use Rattle.live_board.proofs.Bytes.{word-bytes, same-word, joined-set}
 use Rattle.live_board.proofs.Grown.{Grows, Only, grows-written}
@@ -246,13 +246,13 @@ run-around s mid between now before after event reply first second third a is b 
 
 pub part-timed : (s mid now end : State) (p : ℕ) (log log-mid log-now log-end : List Access) (words : List ℕ)
     (event : Event) (reply : Reply) (owed : Bool) (first between after : List Notice)
-    → is_direct_write s event ≡ false → IsShown s p Sim → IsLooks s p log mid log-mid first 16
+    → IsShown s p Sim → IsLooks s p log mid log-mid first 16
     → IsStep mid event now reply first between → Grows (processors mid) (Only p) mid now
     → IsPublished now p true words 16 log-mid log-now
     → IsMarking now p words log-now end log-end owed between after 16
     → IsTimedPart s p log event end log-end reply owed after
-part-timed s mid now end p log log-mid log-now log-end words event reply owed first between after posted shown look
-    one g published m = record {
+part-timed s mid now end p log log-mid log-now log-end words event reply owed first between after shown look one g
+    published m = record {
       looks = look.watched.news;
       stores = published.news;
       marks = m.news;
@@ -260,6 +260,7 @@ part-timed s mid now end p log log-mid log-now log-end words event reply owed fi
         shown = λ _. look.looks;
         hidden = λ no. absurd (no shown);
         stored = published.stores;
+        placed = subst (λ l. ArePlaced 16 l published.news) look.watched.page published.placed;
         marked = m.marks;
         careful = λ _. subst (AreCareful Sim published.news) look.watched.page (published.careful refl);
       };
@@ -267,7 +268,6 @@ part-timed s mid now end p log log-mid log-now log-end words event reply owed fi
       run = run-around s mid now end earlier later event reply first one.emitted m.emitted look.watched.run one.step
           marked ∙ ap (λ (ns : List Notice). (end, all_done earlier ++ reply ∷ all_done later, ns)) (sym notices);
       owes = m.owes;
-      direct = λ direct. absurd (cc);
       shadow = λ x low. m.done x low (inr (omega (arith, low)));
       others = λ j x low ne. m.others j x low ne ∙ ap (λ l. word_at l (8 * x)) (g.others j ne)
           ∙ look.watched.others j x low ne;
@@ -297,12 +297,12 @@ part-timed s mid now end p log log-mid log-now log-end words event reply owed fi
     notices = m.notices ∙ ap (λ ns. ns ++ m.emitted) one.notices ∙ append_assoc first one.emitted m.emitted
 
 pub part-timed-hidden : (s now : State) (p : ℕ) (log log-now : List Access) (words : List ℕ) (event : Event)
-    (reply : Reply) (before after : List Notice) → is_direct_write s event ≡ false → before ≡ []
-    → (IsShown s p Sim → ⊥) → IsStep s event now reply before after
+    (reply : Reply) (before after : List Notice) → before ≡ [] → (IsShown s p Sim → ⊥)
+    → IsStep s event now reply before after
     → Grows (processors s) (Only p) s now → IsPublished now p false words 16 log log-now
     → IsTimedPart s p log event now log-now reply false after
 unfolding run_of
-part-timed-hidden s now p log log-now words event reply before after posted empty hidden one g published = record {
+part-timed-hidden s now p log log-now words event reply before after empty hidden one g published = record {
   looks = [];
   stores = published.news;
   marks = [];
@@ -310,6 +310,7 @@ part-timed-hidden s now p log log-now words event reply before after posted empt
     shown = λ shown. absurd (hidden shown);
     hidden = λ _. (refl, refl);
     stored = published.stores;
+    placed = published.placed;
     marked = tt;
     careful = λ shown. absurd (hidden shown);
   };
@@ -318,7 +319,6 @@ part-timed-hidden s now p log log-now words event reply before after posted empt
       ∙ ap (λ (ns : List Notice). (now, reply ∷ [], ns))
       (append-nil one.emitted ∙ sym (one.notices ∙ ap (λ ns. ns ++ one.emitted) empty));
   owes = refl;
-  direct = λ direct. absurd (cc);
   shadow = λ x low. published.done x low (omega (arith, low)) (inl refl);
   others = λ j x low ne. ap (λ l. word_at l (8 * x)) (g.others j ne);
   count = g.count;

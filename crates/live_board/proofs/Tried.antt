@@ -23,6 +23,9 @@ use Rattle.live_board.specs.Words.{word_at, word_of}
 use Rattle.live_board.specs.inside.Parts.{Attempts}
 use Rattle.live_board.proofs.Bytes.{bit-here, bit-elsewhere, slot-elsewhere}
 
+not-empty : (x : ℕ) → x ≢ 0 → (x == 0) ≡ false
+not-empty x ne = grind (arith, nat_tests)
+
 -- raising a vector changes no page
 pub own-requested : (s : State) (p v : ℕ) → (requested s p v).0.own ≡ s.own
 own-requested s p v = either (λ (e : Effect). e.0.own ≡ s.own) _ _ _ (λ _. refl) (λ _. refl)
@@ -85,6 +88,7 @@ tries-is s now p i inside long under bytes (inl (none, own)) = record {
   others = λ j x _ _. ap (λ l. words l j x) own;
   idle = λ _ j x. ap (λ l. words l j x) own;
   marks = λ made _ x _. absurd (no-both made none);
+  fills = λ made _. absurd (no-both made none);
 }
 tries-is s now p i inside long under bytes (inr (made, inl (full, own))) = record {
   count = ap length own ∙ length-set s.own (2 * p) page;
@@ -92,6 +96,7 @@ tries-is s now p i inside long under bytes (inr (made, inl (full, own))) = recor
   idle = λ none j x. absurd (no-both made none);
   marks = λ _ _ x low. ap (λ l. words l (2 * p) x) own
       ∙ ap (λ l. word_at l (8 * x)) (get_or-set_same s.own (2 * p) page [] inside) ∙ here x low (cases_eq x (32 * i));
+  fills = λ _ free. absurd (no-both free full);
 }
   where
     page : List ℕ
@@ -122,6 +127,9 @@ tries-is s now p i inside long under bytes (inr (made, inr (empty, (image, size,
   others = λ j x low ne. ap (λ l. words l j x) own ∙ elsewhere j x low (cases_eq j (2 * p)) ne;
   idle = λ none j x. absurd (no-both made none);
   marks = λ _ full x _. absurd (no-both empty full);
+  fills = λ _ _. not-empty (slot_type (page_of now p) i) (λ z.
+      some (ap (λ l. slot_type l i) (sym (get_or-set_same s.own (2 * p) page [] inside))
+      ∙ ap (λ l. slot_type (get_or l (2 * p) []) i) (sym own) ∙ z));
 }
   where
     page : List ℕ

@@ -8,7 +8,9 @@ use Rattle.message_queues.specs.Queues.{queue_of}
 use Rattle.synic_board.specs.declared.event.Event.{Event}
 use Rattle.synic_board.specs.declared.event.Event.TheVariants.{Tick}
 use Rattle.synic_board.specs.declared.event.Reply.{Reply}
-use Rattle.synic_board.specs.State.{State, processors, space_of}
+use Rattle.stimer_bank.specs.Bank.{timer_in}
+use Rattle.stimer_bank.specs.Timer.{is_due, is_direct}
+use Rattle.synic_board.specs.State.{State, processors, bank_of, space_of}
 use Rattle.synic_board.specs.Ranges.{HasRanges}
 use Rattle.synic_board.specs.Run.{Run, run_of}
 use Rattle.synic_board.specs.Sound.{IsSound, HasShape}
@@ -16,9 +18,10 @@ use Rattle.synic_board.specs.Step.{step}
 use Rattle.synic_board.proofs.keeping.Wholes.{kept_from_sound}
 use Rattle.live_pages.specs.Slot.{header}
 use Rattle.live_pages.specs.declared.access.Access.{Access}
-use Rattle.live_board.specs.Live.{LiveModel, Shadows, IsTicked, IsShown, AreMarks, number_at, explained, explained_after, looked_from, marked_from, is_any_due, log_of}
+use Rattle.live_board.specs.Live.{LiveModel, Shadows, IsTicked, IsShown, AreMarks, number_at, explained, explained_after, looked_from, marked_from, is_any_due, AreDueDirect, has_processor, log_of}
 use Rattle.live_board.specs.Waking.{is_accessed, IsLeftMarked, LeavesMarkedUnlessOwed}
 use Rattle.live_board.proofs.Clocked.{early-queues}
+use Rattle.live_board.proofs.DirectTicks.{queue-tick, rest-due}
 use Rattle.live_board.proofs.Fired.{Goes, goes-ticked}
 use Rattle.live_board.proofs.Grown.{Grows, Any, grows-ticked}
 use Rattle.live_board.proofs.Guests.{Rest, AreOfPage, looks-of, page-changes, is-owner, fits-looked, fits-marked, kept-by, rest-after}
@@ -142,46 +145,94 @@ steps-of s now moment pages looks stores marks replies notices h of run = record
     es : List Event
     es = looked_from s pages looks 0 (processors s)
 
--- the accesses of each page, whether a timer is due or not
-pages-of : (old now : LiveModel) (moment : ℕ) (reply : Reply) (owed : List Bool) (notices late : List Notice)
-    → (t : IsTicked old moment now reply owed notices late) → (q : ℕ) → q < processors old.board.state
-    → OfPage old.board.state q (t.looks q) (t.marks q)
-pages-of old now moment reply owed notices late t q low = by (is_any_due old.board.state moment) refl
+-- a due timer is in direct mode
+abbrev IsDirectIfDue : State → ℕ → ℕ → ℕ → Type 0
+IsDirectIfDue s p moment i =
+    is_due (timer_in (bank_of s) (p, i)) moment ≡ true → is_direct (timer_in (bank_of s) (p, i)).config ≡ true
+
+one-or : (a b : Bool) → (a ≡ true → b ≡ true) ⊎ ((a ≡ true → b ≡ true) → ⊥)
+one-or a true = inl (λ _. refl)
+one-or false false = inl (λ no. absurd (cc))
+one-or true false = inr (λ h. let e : false ≡ true = h refl in cc)
+
+-- whether those of a processor are
+direct-or : (s : State) (p moment : ℕ) → AreDueDirect s p moment ⊎ (AreDueDirect s p moment → ⊥)
+direct-or s p moment = by (one 0) (one 1) (one 2) (one 3)
   where
-    by : (b : Bool) → is_any_due old.board.state moment ≡ b → OfPage old.board.state q (t.looks q) (t.marks q)
-    by true due =
+    one : (i : ℕ) → IsDirectIfDue s p moment i ⊎ (IsDirectIfDue s p moment i → ⊥)
+    one i = one-or (is_due (timer_in (bank_of s) (p, i)) moment) (is_direct (timer_in (bank_of s) (p, i)).config)
+
+    all : IsDirectIfDue s p moment 0 → IsDirectIfDue s p moment 1 → IsDirectIfDue s p moment 2
+        → IsDirectIfDue s p moment 3 → AreDueDirect s p moment
+    all a b c d zero low = a
+    all a b c d (suc zero) low = b
+    all a b c d (suc (suc zero)) low = c
+    all a b c d (suc (suc (suc zero))) low = d
+    all a b c d (suc (suc (suc (suc i)))) low = absurd (omega (arith, low))
+
+    none : {n : ℕ} → n < 4 → (IsDirectIfDue s p moment n → ⊥)
+        → AreDueDirect s p moment ⊎ (AreDueDirect s p moment → ⊥)
+    none {n} low not = inr (λ h. not (h n low))
+
+    last : IsDirectIfDue s p moment 0 → IsDirectIfDue s p moment 1 → IsDirectIfDue s p moment 2
+        → IsDirectIfDue s p moment 3 ⊎ (IsDirectIfDue s p moment 3 → ⊥)
+        → AreDueDirect s p moment ⊎ (AreDueDirect s p moment → ⊥)
+    last a b c (inl d) = inl (all a b c d)
+    last a b c (inr not) = none (omega arith) not
+
+    by : IsDirectIfDue s p moment 0 ⊎ (IsDirectIfDue s p moment 0 → ⊥)
+        → IsDirectIfDue s p moment 1 ⊎ (IsDirectIfDue s p moment 1 → ⊥)
+        → IsDirectIfDue s p moment 2 ⊎ (IsDirectIfDue s p moment 2 → ⊥)
+        → IsDirectIfDue s p moment 3 ⊎ (IsDirectIfDue s p moment 3 → ⊥)
+        → AreDueDirect s p moment ⊎ (AreDueDirect s p moment → ⊥)
+    by (inr not) b c d = none (omega arith) not
+    by (inl a) (inr not) c d = none (omega arith) not
+    by (inl a) (inl b) (inr not) d = none (omega arith) not
+    by (inl a) (inl b) (inl c) d = last a b c d
+
+-- the accesses of each page
+pages-of : (old now : LiveModel) (moment : ℕ) (reply : Reply) (owed : ℕ) (notices : List Notice)
+    → (t : IsTicked old moment now reply owed notices) → (q : ℕ) → q < processors old.board.state
+    → OfPage old.board.state q (t.looks q) (t.marks q)
+pages-of old now moment reply owed notices t q low =
+    by (direct-or old.board.state q moment) (is_any_due old.board.state moment) refl
+  where
+    nothing : (t.looks q ≡ []) × (t.stores q ≡ []) × (t.marks q ≡ []) → OfPage old.board.state q (t.looks q) (t.marks q)
+    nothing none = record {
+      shown = λ _. subst AreOfPage (sym none.0) tt;
+      hidden = λ _. (none.0, none.2);
+      marked = subst AreMarks (sym none.2) tt;
+    }
+
+    by : AreDueDirect old.board.state q moment ⊎ (AreDueDirect old.board.state q moment → ⊥) → (b : Bool)
+        → is_any_due old.board.state moment ≡ b → OfPage old.board.state q (t.looks q) (t.marks q)
+    by (inl direct) b is = nothing (t.direct q low direct)
+    by (inr posted) false idle = nothing (t.idle idle q)
+    by (inr posted) true due =
         let are =
-        t.due due q low in
+        t.due due q low posted in
         record {
           shown = λ shown. looks-of 16 (t.looks q) (omega arith) (are.shown shown);
           hidden = are.hidden;
           marked = are.marked;
         }
-    by false idle =
-        let none =
-        t.idle idle q in
-        record {
-          shown = λ _. subst AreOfPage (sym none.0) tt;
-          hidden = λ _. (none.0, none.2);
-          marked = subst AreMarks (sym none.2) tt;
-        }
 
-pub tick-marked : (old now : LiveModel) (p i moment : ℕ) (reply : Reply) (owed : List Bool)
-    (notices late : List Notice) → IsSound old.board.state → HasShape now.board.state → HasRanges now.board.state
+pub tick-marked : (old now : LiveModel) (p i moment : ℕ) (reply : Reply) (owed : ℕ)
+    (notices : List Notice) → IsSound old.board.state → HasShape now.board.state → HasRanges now.board.state
     → Shadows now.board.state now.pages
-    → p < processors old.board.state → i < 16 → IsTicked old moment now reply owed notices late
-    → LeavesMarkedUnlessOwed p i old now (get_or owed p false)
-tick-marked old now p i moment reply owed notices late sound shape ranges shadows on under t other none shown waits =
-    by (is_any_due s moment) refl
+    → p < processors old.board.state → i < 16 → IsTicked old moment now reply owed notices
+    → LeavesMarkedUnlessOwed p i old now (has_processor owed p)
+tick-marked old now p i moment reply owed notices sound shape ranges shadows on under t other none shown waits =
+    by (direct-or s p moment) (is_any_due s moment) refl
   where
     s : State
     s = old.board.state
 
     of : (q : ℕ) → q < processors s → OfPage s q (t.looks q) (t.marks q)
-    of = pages-of old now moment reply owed notices late t
+    of = pages-of old now moment reply owed notices t
 
     steps : AreSteps s moment old.pages t.looks t.stores t.marks now.board.state
-    steps = steps-of s now.board.state moment old.pages t.looks t.stores t.marks _ (notices ++ late) sound of t.run
+    steps = steps-of s now.board.state moment old.pages t.looks t.stores t.marks _ notices sound of t.run
 
     end : State
     end = (step steps.mid (Tick moment)).0
@@ -227,15 +278,22 @@ tick-marked old now p i moment reply owed notices late sound shape ranges shadow
     now-on : p < processors now.board.state
     now-on = subst (λ n. p < n) (sym (ap processors last)) (end-on p on)
 
-    by : (b : Bool) → is_any_due s moment ≡ b → IsLeftMarked i (log_of old p Sim) (log_of now p Sim)
-    by true due =
+    same : queue_of end.queues p i ≡ queue_of steps.mid.queues p i
+        → IsLeftMarked i (log_of old p Sim) (log_of now p Sim)
+    same early =
+        absurd (other (ap (λ (x : State). queue_of x.queues p i) last ∙ early
+        ∙ ap (λ (x : State). queue_of x.queues p i) steps.seen))
+
+    by : AreDueDirect s p moment ⊎ (AreDueDirect s p moment → ⊥) → (b : Bool) → is_any_due s moment ≡ b
+        → IsLeftMarked i (log_of old p Sim) (log_of now p Sim)
+    by (inl direct) b is =
+        same (queue-tick steps.mid p i moment under (rest-due s steps.mid p (Tick moment) steps.seen direct))
+    by (inr posted) false idle =
+        same (ap (λ l. queue_of l p i) (tick-early steps.mid moment (ap (λ x. is_any_due x moment) steps.seen ∙ idle)))
+    by (inr posted) true due =
         left-marked i (t.looks p) (t.stores p) (t.marks p) (log_of old p Sim) (log_of now p Sim) (t.logs p on) under
-        ((t.due due p on).shown shown)
+        ((t.due due p on posted).shown shown)
         (word-marked end now.board.state p i (t.marks p) (t.stores p ++ (t.looks p ++ log_of old p Sim))
         (log_of now p Sim) now.pages (of p on).marked (sym (t.owes p on) ∙ none) (t.logs p on) refl (held i)
         (seen-after s steps.mid end now.board.state p i steps.seen last
         (tick-goes steps.mid moment p i steps.sound under) other waits) now-on shape ranges shadows under)
-    by false idle =
-        let early = tick-early steps.mid moment (ap (λ x. is_any_due x moment) steps.seen ∙ idle) in
-        absurd (other (ap (λ (x : State). queue_of x.queues p i) last ∙ ap (λ l. queue_of l p i) early
-        ∙ ap (λ (x : State). queue_of x.queues p i) steps.seen))

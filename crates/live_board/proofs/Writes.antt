@@ -1,9 +1,8 @@
 -- The registers of the timers, and their numbers, which no other register has.
-use Rattle.std.proofs.Common.{◌≡◌, ◌≢◌, ◌⊎◌, inl, inr, ℕ, ◌-◌, ◌/◌, ◌%◌, ◌<◌, ◌≤◌, Bool, true, false, nat_lt, List, set, refl, sym, ap, ◌∙◌, arith}
+use Rattle.std.proofs.Common.{◌≡◌, ◌≢◌, ◌⊎◌, inl, inr, ℕ, ◌-◌, ◌/◌, ◌%◌, ◌<◌, ◌≤◌, Bool, true, false, nat_lt, List, refl, ap, arith}
 use Rattle.std.specs.Prelude.{Option, Some}
 use Rattle.std.specs.Option.{option_map_or}
 use Rattle.std.proofs.lemmas.Bool.{cases_eq}
-use Rattle.std.proofs.lemmas.List.{set-get_or}
 use Rattle.board_terms.specs.declared.notices.Notice.{Notice}
 use Rattle.synic_regs.specs.declared.register.Register.{Register}
 use Rattle.synic_regs.specs.declared.register.Register.TheVariants.{TimerConfig, TimerCount}
@@ -12,10 +11,9 @@ use Rattle.synic_regs.proofs.Numbers.{have_their_numbers}
 use Rattle.synic_board.specs.declared.event.Event.{Event}
 use Rattle.synic_board.specs.declared.event.Reply.{Reply}
 use Rattle.synic_board.specs.State.{processors}
-use Rattle.live_board.specs.Acting.{IsRegisterWrite, IsTimedWrite, none_owed}
+use Rattle.live_board.specs.Acting.{IsRegisterWrite, IsTimedWrite}
 use Rattle.live_board.specs.Live.{LiveModel}
-use Rattle.live_board.specs.Timers.{is_timer_register}
-use Rattle.live_board.proofs.Clocked.{none-owed}
+use Rattle.live_board.specs.Timers.{is_timer_register, is_direct_write}
 
 -- the registers of the timers, in alternation
 pub timer-config : (n : ℕ) → 0x400000b0 ≤ n → n ≤ 0x400000b7 → (n - 0x400000b0) % 2 ≡ 0
@@ -64,13 +62,10 @@ timer-outside n out = by (option_map_or is_timer_register (register_of n) false)
 
 -- what a write of a timer is
 pub timer-written : (o : Option Register) (p : ℕ) (old : LiveModel) (event : Event) (now : LiveModel) (reply : Reply)
-    (owed : List Bool) (notices : List Notice) → option_map_or is_timer_register o false ≡ true
-    → IsTimedWrite (nat_lt p (processors old.board.state)) p old event now reply owed notices
+    (owed : ℕ) (notices : List Notice) → option_map_or is_timer_register o false ≡ true
+    → IsTimedWrite (nat_lt p (processors old.board.state)) (is_direct_write old.board.state event) p old event now reply
+    owed notices
     → IsRegisterWrite o p old event now reply owed notices
 timer-written (Some (TimerConfig k)) p old event now reply owed notices timer h = h
 timer-written (Some (TimerCount k)) p old event now reply owed notices timer h = h
 timer-written o p old event now reply owed notices timer h = absurd (cc)
-
--- an EOM that one processor is not owed
-pub none-owed-by : (p : ℕ) → none_owed ≡ set none_owed p false
-none-owed-by p = sym (ap (set none_owed p) (sym (none-owed 8 p)) ∙ set-get_or none_owed p false)

@@ -1,8 +1,10 @@
 pub mod Words
 pub mod Live
 pub mod Settling
+pub mod Hiding
 pub mod Waking
 pub mod Timers
+pub mod Signals
 pub mod Acting
 pub mod Runs
 pub mod inside

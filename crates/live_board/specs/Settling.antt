@@ -1,5 +1,5 @@
 -- A processor's live pages before an image of the board is saved: each word is loaded.
-use Rattle.std.specs.Prelude.{◌≡◌, ℕ, zero, suc, ◌+◌, ◌*◌, List, ◌∷◌, [], ◌++◌, slice_set}
+use Rattle.std.specs.Prelude.{◌≡◌, ℕ, zero, suc, ◌+◌, ◌*◌, ◌≤◌, List, ◌∷◌, [], ◌++◌, length, slice_set}
 use Rattle.board_terms.specs.declared.notices.Notice.{Notice}
 use Rattle.board_terms.specs.declared.pages.Kind.{Kind}
 use Rattle.board_terms.specs.declared.pages.Kind.TheVariants.{Sim, Sief}
@@ -20,15 +20,16 @@ pub record AreAllLoads (s : State) (p : ℕ) (k : Kind) (news : List Access) : T
   pub hidden : (IsShown s p k → ⊥) → news ≡ []
 
 -- a live board loads all words of both pages of a processor that the guest sees, the message page first, and the
--- reference model
--- performs the guest's stores that these show
+-- reference model performs the guest's stores that these show
 pub record IsSettled (p : ℕ) (old : LiveModel) (now : LiveModel) (notices : List Notice) : Type 0 where
+  pub few : length notices ≤ 32
   pub messages : List Access
   pub flags : List Access
   pub are_messages : AreAllLoads old.board.state p Sim messages
   pub are_flags : AreAllLoads old.board.state p Sief flags
   pub pages : now.pages ≡ slice_set (slice_set old.pages (2 * p) (messages ++ log_of old p Sim)) (2 * p + 1)
       (flags ++ log_of old p Sief)
+  pub names : now.names ≡ old.names
   pub run : run_of old.board.state
       (explained old.board.state p Sim messages (log_of old p Sim)
       ++ explained old.board.state p Sief flags (log_of old p Sief))

@@ -1,10 +1,12 @@
 -- The guest's wake-up for a message that stays queued (TLFS, "Message Delivery"): it finds MessagePending in the slot
 -- that it empties.
-use Rattle.std.specs.Prelude.{◌≡◌, ◌≢◌, ℕ, ◌==◌, ◌||◌, ◌++◌, Bool, true, false, List, [], ◌∷◌}
+use Rattle.std.specs.Prelude.{◌≡◌, ◌≢◌, ◌⊎◌, ℕ, ◌==◌, ◌||◌, ◌++◌, Bool, true, false, List, [], ◌∷◌}
 use Rattle.board_terms.specs.declared.pages.Kind.TheVariants.{Sim}
 use Rattle.message_queues.specs.Queues.{queue_of}
 use Rattle.live_pages.specs.Slot.{known, header, type_of, is_pending}
-use Rattle.live_pages.specs.Traces.{Turn, memory, accesses}
+use Rattle.live_pages.specs.declared.access.Turn.{Turn}
+use Rattle.live_pages.specs.declared.access.Turn.TheVariants.{ByHost, ByGuest}
+use Rattle.live_pages.specs.Traces.{memory, accesses}
 use Rattle.live_pages.specs.Protocol.{idle, cleared}
 use Rattle.live_pages.specs.Headers.{Slot}
 use Rattle.live_pages.specs.declared.access.Access.{Access}
@@ -17,13 +19,18 @@ is_of w (Load x found) = w == x
 is_of w (FetchOr x mask found) = w == x
 is_of w (Store x value) = w == x
 
+-- a word that the guest has not stored since the host's last access to it, if there is one
+abbrev pub IsUntouched : ℕ → List Turn → Type 0
+IsUntouched w [] = Unit {0}
+IsUntouched w (ByGuest x value ∷ turns) = (w ≢ x) × IsUntouched w turns
+IsUntouched w (ByHost a ∷ turns) = (is_of w a ≡ true) ⊎ IsUntouched w turns
+
 abbrev pub is_accessed : ℕ → List Access → Bool
 is_accessed w [] = false
 is_accessed w (a ∷ news) = is_of w a || is_accessed w news
 
 -- the host accesses the header of a slot, and the last time it finds or leaves it occupied and with MessagePending. A
--- guest that empties
--- the slot does it later, and then loads the flags: it finds MessagePending, and writes EOM
+-- guest that empties the slot does it later, and then loads the flags: it finds MessagePending, and writes EOM
 pub record IsLeftMarked (i : ℕ) (log now : List Access) : Type 0 where
   pub news : List Access
   pub page : now ≡ news ++ log
@@ -43,9 +50,8 @@ abbrev pub LeavesMarkedUnlessOwed : ℕ → ℕ → LiveModel → LiveModel → 
 LeavesMarkedUnlessOwed p i old now owed =
     queue_of now.board.state.queues p i ≢ queue_of old.board.state.queues p i → owed ≡ false → LeavesMarked p i old now
 
--- in a history of a page there was a time in a call, whose accesses follow a log, when the host had accessed the
--- header of a slot and
--- memory had it occupied and with MessagePending, and since then the host has not accessed it
+-- in a history of a page there was a time in a call, whose accesses follow a log, when the host had accessed the header
+-- of a slot and memory had it occupied and with MessagePending, and since then the host has not accessed it
 pub record WasMarked (i : ℕ) (log : List Access) (turns : List Turn) : Type 0 where
   pub since : List Turn
   pub before : List Turn
@@ -57,9 +63,8 @@ pub record WasMarked (i : ℕ) (log : List Access) (turns : List Turn) : Type 0 
   pub pending : is_pending (memory before (header i)) ≡ true
   pub untouched : is_accessed (header i) (accesses since) ≡ false
 
--- a header and a guest as they may be when the host has left a slot marked: a guest's store of type 0 is in its
--- buffer only until the
--- guest loads the flags
+-- a header and a guest as they may be when the host has left a slot marked: a guest's store of type 0 is in its buffer
+-- only until the guest loads the flags
 pub record MayFollow (word : ℕ) (s : Slot) : Type 0 where
   pub header : s.header ≡ word
   pub host : s.host ≡ idle

@@ -2,3 +2,4 @@
 pub mod Codes
 pub mod Parts
 pub mod Kinds
+pub mod Pages

@@ -58,10 +58,12 @@ fn end_shown(
 ) -> Reply
     requires eom { IsEomOf board.old.state vp event.now }
     requires shown { IsShown board.old.state vp Sim }
-    requires shadow { IsShadow board.old.state (2 * vp) page.old }
+    requires shadow { IsShadow board.old.state (2 * vp) page.old.log }
     requires empty { notices.old ≡ [] }
-    ensures part { IsPart board.old.state vp Sim page.old event.now board.new.state page.new result notices.new }
-    ensures probed { HasProbed board.old.state vp page.old page.new }
+    ensures part { IsPart board.old.state vp Sim page.old.log event.now board.new.state page.new.log result
+        notices.new }
+    ensures probed { HasProbed board.old.state vp page.old.log page.new.log }
+    ensures name { page.new.name ≡ page.old.name }
 {
     let words = probe_waiting(board, page, vp, scratch, notices);
     board.facts();
@@ -83,9 +85,11 @@ fn end_hidden(
 ) -> Reply
     requires eom { IsEomOf board.old.state vp event.now }
     requires hidden { IsShown board.old.state vp Sim → ⊥ }
-    requires shadow { IsShadow board.old.state (2 * vp) page.old }
+    requires shadow { IsShadow board.old.state (2 * vp) page.old.log }
     requires empty { notices.old ≡ [] }
-    ensures { IsPart board.old.state vp Sim page.old event.now board.new.state page.new result notices.new }
+    ensures part { IsPart board.old.state vp Sim page.old.log event.now board.new.state page.new.log result
+        notices.new }
+    ensures name { page.new.name ≡ page.old.name }
 {
     board.facts();
     let words = page_words(board, vp);
@@ -106,10 +110,12 @@ pub(crate) fn end_on(
     notices: &mut Notices,
 ) -> Reply
     requires eom { IsEomOf board.old.state vp event.now }
-    requires shadow { IsShadow board.old.state (2 * vp) page.old }
+    requires shadow { IsShadow board.old.state (2 * vp) page.old.log }
     requires empty { notices.old ≡ [] }
-    ensures part { IsPart board.old.state vp Sim page.old event.now board.new.state page.new result notices.new }
-    ensures probed { IsShown board.old.state vp Sim → HasProbed board.old.state vp page.old page.new }
+    ensures part { IsPart board.old.state vp Sim page.old.log event.now board.new.state page.new.log result
+        notices.new }
+    ensures probed { IsShown board.old.state vp Sim → HasProbed board.old.state vp page.old.log page.new.log }
+    ensures name { page.new.name ≡ page.old.name }
 {
     if is_shown(board, vp, Kind::Sim) {
         end_shown(board, page, vp, event, scratch, notices)

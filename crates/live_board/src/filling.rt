@@ -1,5 +1,5 @@
 // Writes what the board did to a slot into the live page.
-ghost use Rattle.std.specs.Prelude.{◌≡◌, ℕ, ◌<◌, ◌≤◌, ◌+◌, ◌*◌, false, slice_index};
+ghost use Rattle.std.specs.Prelude.{◌≡◌, ℕ, ◌<◌, ◌≤◌, ◌+◌, ◌*◌, slice_index};
 ghost use Rattle.synic_board.specs.State.{processors};
 ghost use Rattle.live_pages.specs.Slot.{known};
 ghost use Rattle.live_board.specs.inside.Parts.{AreSlotWords, IsFilled};
@@ -26,40 +26,22 @@ pub(crate) fn slot_words(board: &Board, vp: Vp, sint: Sint) -> [u64; SLOT_WORDS]
     words
 }
 
-/// How many words of a message with this header are in use: its length is in bits 39:32.
-fn used_words(header: u64) -> usize {
-    2 + (((header >> 32) & 0xff) as usize).div_ceil(8)
-}
-
-/// Whether a word is stored: if the board changed it, and if it is part of a message.
-fn is_stored(before: u64, after: u64, is_part: bool) -> bool
-    ensures { result ≡ false → after ≡ before }
+/// Gives all words of a slot their values, and stores the header last, unless the host knows the
+/// header: then nothing. A word that no look reads may hold what the guest stored there, so each is
+/// loaded: what the host knows of it is not asked.
+pub(crate) fn fill(page: &mut LivePage, sint: Sint, header: u64, after: &[u64; SLOT_WORDS])
+    requires header { known page.old.log (32 * sint) ≡ header }
+    requires payload { slice_index after.now 0 ≡ header
+        → (k : ℕ) → 1 ≤ k → k < 32 → known page.old.log (32 * sint + k) ≡ slice_index after.now k }
+    ensures filled { IsFilled sint header after.now page.old.log page.new.log }
+    ensures name { page.new.name ≡ page.old.name }
 {
-    after != before || is_part
-}
-
-/// Stores the words of a slot that are not what the host knows: the payload, and then the header.
-/// `before` are the words that the host knows, except for the header, and `after` those to be stored.
-pub(crate) fn fill(
-    page: &mut LivePage,
-    sint: Sint,
-    header: u64,
-    before: &[u64; SLOT_WORDS],
-    after: &[u64; SLOT_WORDS],
-)
-    requires header { known page.old (32 * sint) ≡ header }
-    requires payload { (k : ℕ) → 1 ≤ k → k < 32 → known page.old (32 * sint + k) ≡ slice_index before.now k }
-    ensures { IsFilled sint header after.now page.old page.new }
-{
+    if after[0] == header {
+        return;
+    }
     let slot = usize::from(sint.number());
-    let is_new = after[0] != header;
-    let used = used_words(after[0]);
     for k in 1..SLOT_WORDS {
-        if is_stored(before[k], after[k], is_new && k < used) {
-            page.store(32 * slot + k, after[k]);
-        }
+        page.put(32 * slot + k, after[k]);
     }
-    if is_new {
-        page.store(32 * slot, after[0]);
-    }
+    page.store(32 * slot, after[0]);
 }

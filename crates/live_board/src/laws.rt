@@ -1,5 +1,5 @@
 // What a guest can do by its stores to live pages, and what it cannot.
-ghost use Rattle.std.specs.Prelude.{◌≡◌, ℕ, ◌<◌, ◌≤◌, ◌++◌, Bool, true, false, List, length, slice_index_or, Some};
+ghost use Rattle.std.specs.Prelude.{◌≡◌, ℕ, ◌<◌, ◌≤◌, ◌++◌, ◌+◌, ◌*◌, Bool, true, false, List, length, Some};
 ghost use Rattle.std.specs.List.{All};
 ghost use Rattle.board_terms.specs.declared.notices.Notice.{Notice};
 ghost use Rattle.board_terms.specs.declared.pages.Kind.{Kind};
@@ -20,13 +20,15 @@ ghost use Rattle.synic_board.specs.Sound.{IsSound, HasShape, PayloadFits};
 ghost use Rattle.live_pages.specs.declared.access.Access.{Access};
 ghost use Rattle.live_pages.specs.Headers.{Slot, Step, are_steps, led_to, is_stuck};
 ghost use Rattle.live_pages.specs.Slot.{known, header};
-ghost use Rattle.live_pages.specs.Traces.{Turn, IsHistory, accesses};
+ghost use Rattle.live_pages.specs.declared.access.Turn.{Turn};
+ghost use Rattle.live_pages.specs.Traces.{IsHistory, accesses, memory};
 ghost use Rattle.live_board.specs.Acting.{HasLookedAt, HasProbedAt};
+ghost use Rattle.live_board.specs.Hiding.{HidesOnlyWhatWasSettled};
 ghost use Rattle.live_board.specs.Runs.{Call, AreCalls, IsRunOf, notices_of};
 ghost use Rattle.live_board.specs.Settling.{IsSettled};
 ghost use Rattle.live_board.specs.Timers.{is_timer_write};
-ghost use Rattle.live_board.specs.Waking.{LeavesMarked, LeavesMarkedUnlessOwed, IsLeftMarked, WasMarked, MayFollow};
-ghost use Rattle.live_board.specs.Live.{LiveModel, Shadows, IsLive, IsQuietly, IsTimed, IsTicked, IsReset, IsObserved, IsOwnStore, explained, explained_after};
+ghost use Rattle.live_board.specs.Waking.{IsUntouched, LeavesMarked, LeavesMarkedUnlessOwed, IsLeftMarked, WasMarked, MayFollow};
+ghost use Rattle.live_board.specs.Live.{LiveModel, Shadows, IsLive, IsQuietly, IsTimed, IsTicked, IsReset, IsObserved, IsOwnStore, IsStored, has_processor, explained, explained_after};
 
 /// Whatever the host finds in a live page, the events that explain it are stores of words of that
 /// page, where the guest sees it. So what is proved of all events of all guests holds of them.
@@ -41,6 +43,19 @@ pub fn a_guest_only_stores()
 pub fn an_event_without_accesses_is_live()
     ensures { (old now : LiveModel) (event : Event) (reply : Reply) (notices : List Notice)
         → IsQuietly old event now reply notices → IsLive old event now reply notices }
+{}
+
+/// Memory holds what the host knows of a word, unless the guest has stored it since the host's last
+/// access to it (`word`). So when the host has stored a slot, the header last, memory holds its image
+/// in each word that the guest has not stored since the host did (`slot`): what the guest left there
+/// before is in none.
+pub fn a_placed_message_is_in_memory()
+    ensures word { (turns : List Turn) (w : ℕ) → IsHistory turns → IsUntouched w turns
+        → memory turns w ≡ known (accesses turns) w }
+    ensures slot { (turns : List Turn) (stores log : List Access) (i : ℕ) (image : ℕ → ℕ) (k : ℕ)
+        → IsHistory turns → IsStored i image stores → accesses turns ≡ stores ++ log → k < 32
+        → IsUntouched (32 * i + k) turns
+        → memory turns (32 * i + k) ≡ image k }
 {}
 
 /// Whatever a guest stores meanwhile, an event of a live board conserves the messages: each accepted
@@ -60,9 +75,9 @@ pub fn a_timer_write_conserves_messages()
 
 /// The same for a tick.
 pub fn a_tick_conserves_messages()
-    ensures { (old now : LiveModel) (moment : ℕ) (reply : Reply) (owed : List Bool) (notices late : List Notice)
-        → IsSound old.board.state → IsTicked old moment now reply owed notices late
-        → IsSound now.board.state × Conserves old.board.state now.board.state (notices ++ late) }
+    ensures { (old now : LiveModel) (moment : ℕ) (reply : Reply) (owed : ℕ) (notices : List Notice)
+        → IsSound old.board.state → IsTicked old moment now reply owed notices
+        → IsSound now.board.state × Conserves old.board.state now.board.state notices }
 {}
 
 /// The same for a reset.
@@ -96,6 +111,12 @@ pub fn a_settle_conserves_messages()
 pub fn a_settle_changes_only_pages()
     ensures { (p : ℕ) (old now : LiveModel) (notices : List Notice) → IsSettled p old now notices
         → now.board.state ≡ record old.board.state { own = now.board.state.own; slots = now.board.state.slots } }
+{}
+
+/// A write of SIMP or SIEFP hides no live page but those that it settles first: what the guest sees of other
+/// overlays stays.
+pub fn a_write_hides_only_what_was_settled()
+    ensures { HidesOnlyWhatWasSettled }
 {}
 
 /// A whole run: whatever calls of `perform` a host makes, and whatever a guest stores meanwhile, they are a
@@ -138,11 +159,11 @@ pub fn a_waiting_message_is_marked()
         → Shadows now.board.state now.pages
         → p < processors old.board.state → i < 16 → is_timer_write (Write p number value) ≡ true
         → IsTimed p old (Write p number value) now reply owed notices → LeavesMarkedUnlessOwed p i old now owed }
-    ensures tick { (old now : LiveModel) (p i moment : ℕ) (reply : Reply) (owed : List Bool)
-        (notices late : List Notice) → IsSound old.board.state → HasShape now.board.state → HasRanges now.board.state
+    ensures tick { (old now : LiveModel) (p i moment : ℕ) (reply : Reply) (owed : ℕ)
+        (notices : List Notice) → IsSound old.board.state → HasShape now.board.state → HasRanges now.board.state
         → Shadows now.board.state now.pages
-        → p < processors old.board.state → i < 16 → IsTicked old moment now reply owed notices late
-        → LeavesMarkedUnlessOwed p i old now (slice_index_or owed p false) }
+        → p < processors old.board.state → i < 16 → IsTicked old moment now reply owed notices
+        → LeavesMarkedUnlessOwed p i old now (has_processor owed p) }
     ensures memory { (i : ℕ) (log now : List Access) (turns : List Turn) → IsLeftMarked i log now → IsHistory turns
         → accesses turns ≡ now → WasMarked i log turns }
     ensures protocol { (i : ℕ) (log now : List Access) (s : Slot) (steps : List Step) → IsLeftMarked i log now

@@ -28,10 +28,12 @@ fn mark_slot(
 ) -> bool
     requires on { vp < processors board.old.state }
     requires shown { IsShown board.old.state vp Sim }
-    requires known { type_of was ≢ 0 → known page.old (32 * sint) ≡ was }
-    requires header { MayBeMarked was (known page.old (32 * sint)) (word_of board.old.state (2 * vp) (32 * sint)) }
+    requires known { type_of was ≢ 0 → known page.old.log (32 * sint) ≡ was }
+    requires header { MayBeMarked was (known page.old.log (32 * sint)) (word_of board.old.state (2 * vp) (32 * sint)) }
     requires capacity { length notices.old < 320 }
-    ensures { IsMarked board.old.state vp sint page.old board.new.state page.new result notices.old notices.new }
+    ensures marked { IsMarked board.old.state vp sint page.old.log board.new.state page.new.log result notices.old
+        notices.new }
+    ensures name { page.new.name ≡ page.old.name }
 {
     let slot = 32 * usize::from(sint.number());
     if is_empty(was) || own_word(board, vp, Kind::Sim, slot) == was {
@@ -62,15 +64,17 @@ pub(crate) fn mark_slots(
 ) -> bool
     requires on { vp < processors board.old.state }
     requires shown { IsShown board.old.state vp Sim }
-    requires payload { (x : ℕ) → x < 512 → x % 32 ≢ 0 → known page.old x ≡ word_of board.old.state (2 * vp) x }
+    requires payload { (x : ℕ) → x < 512 → x % 32 ≢ 0 → known page.old.log x ≡ word_of board.old.state (2 * vp) x }
     requires known { (i : ℕ) → i < 16 → type_of (slice_index words.now (32 * i)) ≢ 0
-        → known page.old (32 * i) ≡ slice_index words.now (32 * i) }
+        → known page.old.log (32 * i) ≡ slice_index words.now (32 * i) }
     requires headers { (i : ℕ) → i < 16
-        → MayBeMarked (slice_index words.now (32 * i)) (known page.old (32 * i))
+        → MayBeMarked (slice_index words.now (32 * i)) (known page.old.log (32 * i))
         (word_of board.old.state (2 * vp) (32 * i)) }
     requires capacity { length notices.old + 16 ≤ 320 }
-    ensures { IsMarking board.old.state vp words.now page.old board.new.state page.new result notices.old notices.new
+    ensures marking { IsMarking board.old.state vp words.now page.old.log board.new.state page.new.log result
+        notices.old notices.new
         16 }
+    ensures name { page.new.name ≡ page.old.name }
 {
     let mut owed = false;
     for number in 0..SOURCES {

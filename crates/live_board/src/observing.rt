@@ -21,9 +21,10 @@ const SLOTS: usize = 16;
 fn look_until_other(board: &Board, page: &mut LivePage, vp: Vp) -> Option<(usize, u64)>
     requires on { vp < processors board.now.state }
     requires shown { IsShown board.now.state vp Sim }
-    requires shadow { IsShadow board.now.state (2 * vp) page.old }
-    ensures same { IfNone result (IsLooks board.now.state vp page.old board.now.state page.new [] 16) }
-    ensures other { IfSome result (λ r. IsOther board.now.state vp r.0 r.1 page.old page.new) }
+    requires shadow { IsShadow board.now.state (2 * vp) page.old.log }
+    ensures same { IfNone result (IsLooks board.now.state vp page.old.log board.now.state page.new.log [] 16) }
+    ensures other { IfSome result (λ r. IsOther board.now.state vp r.0 r.1 page.old.log page.new.log) }
+    ensures name { page.new.name ≡ page.old.name }
 {
     board.facts();
     let Some(own) = board.own_page(vp, Kind::Sim) else {
@@ -53,10 +54,11 @@ fn look_on(
 )
     requires on { vp < processors board.old.state }
     requires shown { IsShown board.old.state vp Sim }
-    requires other { (log : List Access) × IsOther board.old.state vp other found log page.old }
+    requires other { (log : List Access) × IsOther board.old.state vp other found log page.old.log }
     requires empty { notices.old ≡ [] }
-    ensures { (log : List Access) → IsOther board.old.state vp other found log page.old
-        → IsLooks board.old.state vp log board.new.state page.new notices.new 16 }
+    ensures looks { (log : List Access) → IsOther board.old.state vp other found log page.old.log
+        → IsLooks board.old.state vp log board.new.state page.new.log notices.new 16 }
+    ensures name { page.new.name ≡ page.old.name }
 {
     pass(board, vp, Kind::Sim, 32 * other, found, scratch, notices);
     for slot in other + 1..SLOTS {
@@ -75,9 +77,10 @@ pub(crate) fn look_at_slots(
 )
     requires on { vp < processors board.old.state }
     requires shown { IsShown board.old.state vp Sim }
-    requires shadow { IsShadow board.old.state (2 * vp) page.old }
+    requires shadow { IsShadow board.old.state (2 * vp) page.old.log }
     requires empty { notices.old ≡ [] }
-    ensures { IsLooks board.old.state vp page.old board.new.state page.new notices.new 16 }
+    ensures looks { IsLooks board.old.state vp page.old.log board.new.state page.new.log notices.new 16 }
+    ensures name { page.new.name ≡ page.old.name }
 {
     if let Some((other, found)) = look_until_other(board, page, vp) {
         look_on(board, page, vp, other, found, scratch, notices);
@@ -94,9 +97,10 @@ pub(crate) fn view_slots(
     notices: &mut Notices,
 )
     requires on { vp < processors board.old.state }
-    requires shadow { IsShadow board.old.state (2 * vp) page.old }
+    requires shadow { IsShadow board.old.state (2 * vp) page.old.log }
     requires empty { notices.old ≡ [] }
-    ensures { IsViewed board.old.state vp page.old board.new.state page.new notices.new }
+    ensures viewed { IsViewed board.old.state vp page.old.log board.new.state page.new.log notices.new }
+    ensures name { page.new.name ≡ page.old.name }
 {
     if is_shown(board, vp, Kind::Sim) {
         look_at_slots(board, page, vp, scratch, notices);

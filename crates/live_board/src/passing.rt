@@ -131,9 +131,11 @@ pub(crate) fn look(
     requires on { vp < processors board.old.state }
     requires word { word < 512 }
     requires shown { IsShown board.old.state vp kind }
-    requires known { known page.old word ≡ word_of board.old.state (overlay_of vp kind) word }
+    requires known { known page.old.log word ≡ word_of board.old.state (overlay_of vp kind) word }
     requires capacity { length notices.old < 320 }
-    ensures { IsLook board.old.state vp kind word page.old board.new.state page.new result notices.old notices.new }
+    ensures look { IsLook board.old.state vp kind word page.old.log board.new.state page.new.log result notices.old
+        notices.new }
+    ensures name { page.new.name ≡ page.old.name }
 {
     let found = page.load(word);
     pass(board, vp, kind, word, found, scratch, notices);
@@ -156,10 +158,11 @@ pub(crate) fn mark(
     requires on { vp < processors board.old.state }
     requires word { word < 512 }
     requires shown { IsShown board.old.state vp kind }
-    requires known { known page.old word ≡ word_of board.old.state (overlay_of vp kind) word }
+    requires known { known page.old.log word ≡ word_of board.old.state (overlay_of vp kind) word }
     requires capacity { length notices.old < 320 }
-    ensures { IsMark board.old.state vp kind word mask page.old board.new.state page.new result notices.old
+    ensures mark { IsMark board.old.state vp kind word mask page.old.log board.new.state page.new.log result notices.old
         notices.new }
+    ensures name { page.new.name ≡ page.old.name }
 {
     let found = page.fetch_or(word, mask);
     pass(board, vp, kind, word, found, scratch, notices);

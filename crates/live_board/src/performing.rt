@@ -1,10 +1,10 @@
 // An event after the looks at live pages.
-ghost use Rattle.std.specs.Prelude.{◌≡◌, ℕ, ◌≤◌, ◌+◌, ◌++◌, length};
+ghost use Rattle.std.specs.Prelude.{◌≡◌, ◌≤◌, ◌+◌, ◌++◌, length};
 ghost use Rattle.synic_board.specs.Bounds.{most_notices};
-ghost use Rattle.synic_board.specs.declared.event.Event.TheVariants.{Write, Signal, Tick};
+ghost use Rattle.synic_board.specs.declared.event.Event.TheVariants.{Write, Signal};
 ghost use Rattle.live_board.specs.inside.Parts.{IsStep};
 
-use board_terms::{Moment, Notices};
+use board_terms::Notices;
 use synic_board::{Board, Event, Reply};
 
 /// Appends notices to those that are there.
@@ -122,52 +122,4 @@ fn write_later(
         scratch,
         notices,
     )
-}
-
-/// Performs a tick, and appends its notices to those that are there. The event is made
-/// where the board performs it, so it is never in memory.
-#[inline(always)]
-pub(crate) fn perform_tick(
-    board: &mut Board,
-    moment: Moment,
-    scratch: &mut Notices,
-    notices: &mut Notices,
-) -> Reply
-    requires { length notices.old + 192 ≤ 320 }
-    ensures { IsStep board.old.state (Tick moment) board.new.state result notices.old notices.new }
-{
-    if notices.as_slice().is_empty() {
-        return board.perform(&Event::Tick { moment }, notices);
-    }
-    tick_later(board, moment, scratch, notices)
-}
-
-/// The same after stores of the guest were found that have notices.
-#[cold]
-#[inline(never)]
-fn tick_later(
-    board: &mut Board,
-    moment: Moment,
-    scratch: &mut Notices,
-    notices: &mut Notices,
-) -> Reply
-    requires { length notices.old + 192 ≤ 320 }
-    ensures { IsStep board.old.state (Tick moment) board.new.state result notices.old notices.new }
-{
-    perform_after(board, &Event::Tick { moment }, scratch, notices)
-}
-
-/// The processor, the register and the value of a write; zeros for another event.
-#[inline(always)]
-pub(crate) fn written(event: &Event) -> (u8, u32, u64)
-    ensures { (p number value : ℕ) → event.now ≡ Write p number value → event.now ≡ Write result.0 result.1 result.2 }
-{
-    match event {
-        Event::Write {
-            vp,
-            register,
-            value,
-        } => (*vp, *register, *value),
-        _ => (0, 0, 0),
-    }
 }

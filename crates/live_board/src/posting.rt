@@ -6,7 +6,7 @@ ghost use Rattle.synic_board.specs.declared.event.Event.TheVariants.{Post};
 ghost use Rattle.synic_board.specs.State.{processors, ports_of};
 ghost use Rattle.live_pages.specs.Slot.{known, type_of, is_pending};
 ghost use Rattle.live_board.specs.Words.{word_of};
-ghost use Rattle.live_board.specs.Live.{IsShown, HasLooked};
+ghost use Rattle.live_board.specs.Live.{IsShown, HasLooked, HasPlaced, slot_word};
 ghost use Rattle.live_board.specs.inside.Parts.{IsShadow, IsFound, IsStep, IsInto, IsPart};
 
 use crate::attempt::is_attempted;
@@ -49,10 +49,12 @@ fn find_header(
     requires open { port_at (ports_of board.old.state) number ≡ Some port.now }
     requires on { port.now.vp < processors board.old.state }
     requires shown { IsShown board.old.state port.now.vp Sim }
-    requires shadow { IsShadow board.old.state (2 * port.now.vp) page.old }
+    requires shadow { IsShadow board.old.state (2 * port.now.vp) page.old.log }
     requires capacity { length notices.old < 319 }
-    ensures { IsFound board.old.state number kind port.now page.old board.new.state page.new result.0 result.1
+    ensures found { IsFound board.old.state number kind port.now page.old.log board.new.state page.new.log result.0
+        result.1
         notices.old notices.new }
+    ensures name { page.new.name ≡ page.old.name }
 {
     let slot = 32 * usize::from(port.sint.number());
     let found = look(board, page, port.vp, Kind::Sim, slot, scratch, notices);
@@ -107,21 +109,25 @@ fn post_into(
     scratch: &mut Notices,
     notices: &mut Notices,
 ) -> Reply
+    requires open { port_at (ports_of board.old.state) number ≡ Some port.now }
     requires on { port.now.vp < processors board.old.state }
     requires source { port.now.sint < 16 }
     requires fits { length payload.now ≤ 240 }
-    requires left { known page.old (32 * port.now.sint) ≡ left }
+    requires left { known page.old.log (32 * port.now.sint) ≡ left }
+    requires like { type_of left ≡ type_of (word_of board.old.state (2 * port.now.vp) (32 * port.now.sint)) }
     requires others { (x : ℕ) → x < 512 → x ≢ 32 * port.now.sint
-        → known page.old x ≡ word_of board.old.state (2 * port.now.vp) x }
+        → known page.old.log x ≡ word_of board.old.state (2 * port.now.vp) x }
     requires capacity { length notices.old ≤ 2 }
-    ensures { IsInto port.now left board.old.state page.old
-        (Post number kind (record { items = payload.now })) board.new.state page.new result notices.old notices.new }
+    ensures into { IsInto port.now left board.old.state page.old.log
+        (Post number kind (record { items = payload.now })) board.new.state page.new.log result notices.old
+        notices.new }
+    ensures name { page.new.name ≡ page.old.name }
 {
     board.facts();
-    let before = slot_words(board, port.vp, port.sint);
     let reply = perform_post(board, number, kind, payload, scratch, notices);
+    board.facts();
     let after = slot_words(board, port.vp, port.sint);
-    fill(page, port.sint, left, &before, &after);
+    fill(page, port.sint, left, &after);
     reply
 }
 
@@ -140,11 +146,14 @@ fn post_shown(
     requires on { port.now.vp < processors board.old.state }
     requires fits { length payload.now ≤ 240 }
     requires shown { IsShown board.old.state port.now.vp Sim }
-    requires shadow { IsShadow board.old.state (2 * port.now.vp) page.old }
+    requires shadow { IsShadow board.old.state (2 * port.now.vp) page.old.log }
     requires empty { notices.old ≡ [] }
-    ensures part { IsPart board.old.state port.now.vp Sim page.old
-        (Post number kind (record { items = payload.now })) board.new.state page.new result notices.new }
-    ensures looked { HasLooked (32 * port.now.sint) page.old page.new }
+    ensures part { IsPart board.old.state port.now.vp Sim page.old.log
+        (Post number kind (record { items = payload.now })) board.new.state page.new.log result notices.new }
+    ensures looked { HasLooked (32 * port.now.sint) page.old.log page.new.log }
+    ensures placed { HasPlaced port.now.sint (slot_word board.new.state port.now.vp port.now.sint) page.old.log
+        page.new.log }
+    ensures name { page.new.name ≡ page.old.name }
 {
     let (header, left) = find_header(board, page, port, number, kind, scratch, notices);
     board.facts();
@@ -171,10 +180,13 @@ fn post_hidden(
     requires on { port.now.vp < processors board.old.state }
     requires fits { length payload.now ≤ 240 }
     requires hidden { IsShown board.old.state port.now.vp Sim → ⊥ }
-    requires shadow { IsShadow board.old.state (2 * port.now.vp) page.old }
+    requires shadow { IsShadow board.old.state (2 * port.now.vp) page.old.log }
     requires empty { notices.old ≡ [] }
-    ensures { IsPart board.old.state port.now.vp Sim page.old
-        (Post number kind (record { items = payload.now })) board.new.state page.new result notices.new }
+    ensures part { IsPart board.old.state port.now.vp Sim page.old.log
+        (Post number kind (record { items = payload.now })) board.new.state page.new.log result notices.new }
+    ensures placed { HasPlaced port.now.sint (slot_word board.new.state port.now.vp port.now.sint) page.old.log
+        page.new.log }
+    ensures name { page.new.name ≡ page.old.name }
 {
     board.facts();
     let header = own_word(
@@ -202,11 +214,15 @@ pub(crate) fn post_to(
     requires open { port_at (ports_of board.old.state) number ≡ Some port.now }
     requires on { port.now.vp < processors board.old.state }
     requires fits { length payload.now ≤ 240 }
-    requires shadow { IsShadow board.old.state (2 * port.now.vp) page.old }
+    requires shadow { IsShadow board.old.state (2 * port.now.vp) page.old.log }
     requires empty { notices.old ≡ [] }
-    ensures part { IsPart board.old.state port.now.vp Sim page.old
-        (Post number kind (record { items = payload.now })) board.new.state page.new result notices.new }
-    ensures looked { IsShown board.old.state port.now.vp Sim → HasLooked (32 * port.now.sint) page.old page.new }
+    ensures part { IsPart board.old.state port.now.vp Sim page.old.log
+        (Post number kind (record { items = payload.now })) board.new.state page.new.log result notices.new }
+    ensures looked { IsShown board.old.state port.now.vp Sim → HasLooked (32 * port.now.sint) page.old.log
+        page.new.log }
+    ensures placed { HasPlaced port.now.sint (slot_word board.new.state port.now.vp port.now.sint) page.old.log
+        page.new.log }
+    ensures name { page.new.name ≡ page.old.name }
 {
     if is_shown(board, port.vp, Kind::Sim) {
         post_shown(board, page, port, number, kind, payload, scratch, notices)

@@ -47,9 +47,11 @@ fn probe(
 ) -> u64
     requires on { vp < processors board.old.state }
     requires shown { IsShown board.old.state vp Sim }
-    requires known { known page.old (32 * sint) ≡ word_of board.old.state (2 * vp) (32 * sint) }
+    requires known { known page.old.log (32 * sint) ≡ word_of board.old.state (2 * vp) (32 * sint) }
     requires capacity { length notices.old < 319 }
-    ensures { IsProbed board.old.state vp sint page.old board.new.state page.new result notices.old notices.new }
+    ensures probed { IsProbed board.old.state vp sint page.old.log board.new.state page.new.log result notices.old
+        notices.new }
+    ensures name { page.new.name ≡ page.old.name }
 {
     let slot = 32 * usize::from(sint.number());
     let found = look(board, page, vp, Kind::Sim, slot, scratch, notices);
@@ -70,9 +72,10 @@ pub(crate) fn probe_waiting(
 ) -> [u64; WORDS]
     requires on { vp < processors board.old.state }
     requires shown { IsShown board.old.state vp Sim }
-    requires shadow { IsShadow board.old.state (2 * vp) page.old }
+    requires shadow { IsShadow board.old.state (2 * vp) page.old.log }
     requires empty { notices.old ≡ [] }
-    ensures { IsProbing board.old.state vp page.old board.new.state page.new result notices.new 16 }
+    ensures probing { IsProbing board.old.state vp page.old.log board.new.state page.new.log result notices.new 16 }
+    ensures name { page.new.name ≡ page.old.name }
 {
     let mut words = page_words(board, vp);
     for number in 0..SOURCES {

@@ -10,7 +10,7 @@ use crate::passing::own_word;
 use crate::posting::is_empty;
 use crate::words::word_at;
 use board_terms::{Kind, Sint, Vp};
-use live_pages::{LivePage, SLOT_WORDS, WORDS};
+use live_pages::{LivePage, WORDS};
 use synic_board::Board;
 
 /// The number of sources of a processor.
@@ -33,36 +33,24 @@ pub(crate) fn page_words(board: &Board, vp: Vp) -> [u64; WORDS]
     words
 }
 
-/// The words of a slot among those of its page.
-fn words_of_slot(words: &[u64; WORDS], sint: Sint) -> [u64; SLOT_WORDS]
-    ensures { (k : ℕ) → k < 32 → slice_index result k ≡ slice_index words.now (32 * sint + k) }
-{
-    let mut slot = [0; SLOT_WORDS];
-    for k in 0..SLOT_WORDS {
-        slot[k] = words[32 * usize::from(sint.number()) + k];
-    }
-    slot
-}
-
-/// Stores what differs in the slot of a source from the words that the host knows: nothing, if the
-/// header does not.
+/// Stores the slot of a source, unless the host knows its header: then nothing.
 fn publish_slot(board: &Board, page: &mut LivePage, vp: Vp, sint: Sint, words: &[u64; WORDS])
     requires on { vp < processors board.now.state }
-    requires known { (k : ℕ) → k < 32 → known page.old (32 * sint + k) ≡ slice_index words.now (32 * sint + k) }
+    requires known { (k : ℕ) → k < 32 → known page.old.log (32 * sint + k) ≡ slice_index words.now (32 * sint + k) }
     requires kept { AreKept board.now.state vp words.now }
-    ensures { IsFilledFrom board.now.state vp sint (slice_index words.now (32 * sint)) page.old page.new }
+    ensures slot { IsFilledFrom board.now.state vp sint (slice_index words.now (32 * sint)) page.old.log page.new.log }
+    ensures name { page.new.name ≡ page.old.name }
 {
     let slot = 32 * usize::from(sint.number());
     if own_word(board, vp, Kind::Sim, slot) == words[slot] {
         return;
     }
-    let before = words_of_slot(words, sint);
     let after = slot_words(board, vp, sint);
-    fill(page, sint, before[0], &before, &after);
+    fill(page, sint, words[slot], &after);
 }
 
-/// Stores what differs in a message page from the words that the host knows: in each slot, or in the
-/// empty ones if the guest sees the page.
+/// Stores the slots of a message page whose headers the host does not know: all, or the empty ones if
+/// the guest sees the page.
 pub(crate) fn publish(
     board: &Board,
     page: &mut LivePage,
@@ -71,9 +59,10 @@ pub(crate) fn publish(
     is_shown: bool,
 )
     requires on { vp < processors board.now.state }
-    requires known { (x : ℕ) → x < 512 → known page.old x ≡ slice_index words.now x }
+    requires known { (x : ℕ) → x < 512 → known page.old.log x ≡ slice_index words.now x }
     requires kept { AreKept board.now.state vp words.now }
-    ensures { IsPublished board.now.state vp is_shown words.now 16 page.old page.new }
+    ensures published { IsPublished board.now.state vp is_shown words.now 16 page.old.log page.new.log }
+    ensures name { page.new.name ≡ page.old.name }
 {
     for number in 0..SOURCES {
         let Some(sint) = Sint::new(number) else {

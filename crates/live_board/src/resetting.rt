@@ -12,7 +12,8 @@ use synic_board::{Board, Event, Reply};
 
 /// Stores zero to all words of a page.
 pub(crate) fn clear(page: &mut LivePage)
-    ensures { IsCleared 512 page.old page.new }
+    ensures cleared { IsCleared 512 page.old.log page.new.log }
+    ensures name { page.new.name ≡ page.old.name }
 {
     for word in 0..WORDS {
         page.store(word, 0);
@@ -31,9 +32,11 @@ pub(crate) fn reset_messages(
     requires on { vp < processors board.old.state }
     requires inside { 2 * vp + 1 < length board.old.state.own }
     requires reset { event.now ≡ Reset vp }
-    requires shadow { IsShadow board.old.state (2 * vp) page.old }
+    requires shadow { IsShadow board.old.state (2 * vp) page.old.log }
     requires empty { notices.old ≡ [] }
-    ensures { IsResetPart board.old.state vp page.old event.now board.new.state page.new result notices.new }
+    ensures part { IsResetPart board.old.state vp page.old.log event.now board.new.state page.new.log result
+        notices.new }
+    ensures name { page.new.name ≡ page.old.name }
 {
     view_slots(board, page, vp, scratch, notices);
     let reply = perform_after(board, event, scratch, notices);

@@ -21,9 +21,11 @@ fn load_words(
 )
     requires on { vp < processors board.old.state }
     requires shown { IsShown board.old.state vp kind }
-    requires shadow { IsShadow board.old.state (overlay_of vp kind) page.old }
+    requires shadow { IsShadow board.old.state (overlay_of vp kind) page.old.log }
     requires capacity { length notices.old + 16 < 320 }
-    ensures { IsLoads board.old.state vp kind page.old board.new.state page.new notices.old notices.new 512 }
+    ensures loads { IsLoads board.old.state vp kind page.old.log board.new.state page.new.log notices.old notices.new
+        512 }
+    ensures name { page.new.name ≡ page.old.name }
 {
     for word in 0..WORDS {
         board.facts();
@@ -42,9 +44,11 @@ pub(crate) fn settle_page(
     notices: &mut Notices,
 )
     requires on { vp < processors board.old.state }
-    requires shadow { IsShadow board.old.state (overlay_of vp kind) page.old }
+    requires shadow { IsShadow board.old.state (overlay_of vp kind) page.old.log }
     requires capacity { length notices.old + 16 < 320 }
-    ensures { IsLoaded board.old.state vp kind page.old board.new.state page.new notices.old notices.new }
+    ensures loaded { IsLoaded board.old.state vp kind page.old.log board.new.state page.new.log notices.old
+        notices.new }
+    ensures name { page.new.name ≡ page.old.name }
 {
     if is_shown(board, vp, kind) {
         load_words(board, page, vp, kind, scratch, notices);

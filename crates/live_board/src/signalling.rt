@@ -6,7 +6,8 @@ ghost use Rattle.event_ports.specs.Ports.{port_at};
 ghost use Rattle.synic_board.specs.declared.event.Event.TheVariants.{Signal};
 ghost use Rattle.synic_board.specs.State.{processors, ports_of};
 ghost use Rattle.live_board.specs.Live.{IsShown};
-ghost use Rattle.live_board.specs.inside.Parts.{IsShadow, IsPart, signal_reply, signalled_flag};
+ghost use Rattle.live_board.specs.inside.Parts.{IsShadow, IsPart};
+ghost use Rattle.live_board.specs.Signals.{signal_reply, signalled_flag, IsSet};
 
 use crate::attempt::ENABLE;
 use crate::passing::{mark, own_word};
@@ -69,10 +70,13 @@ pub(crate) fn signal_shown(
     requires place { signalled_flag board.old.state flag port.now ≡ Some place }
     requires range { place < 2048 }
     requires shown { IsShown board.old.state port.now.vp Sief }
-    requires shadow { IsShadow board.old.state (2 * port.now.vp + 1) page.old }
+    requires shadow { IsShadow board.old.state (2 * port.now.vp + 1) page.old.log }
     requires empty { notices.old ≡ [] }
-    ensures { IsPart board.old.state port.now.vp Sief page.old (Signal number flag) board.new.state page.new
+    ensures part { IsPart board.old.state port.now.vp Sief page.old.log (Signal number flag) board.new.state
+        page.new.log
         (signal_reply result) notices.new }
+    ensures set { IsSet port.now.sint place page.old.log page.new.log (signal_reply result) }
+    ensures name { page.new.name ≡ page.old.name }
 {
     board.facts();
     let word = 32 * usize::from(port.sint.number()) + usize::from(place / 64);
@@ -113,10 +117,11 @@ fn signal_hidden(
     requires place { signalled_flag board.old.state flag port.now ≡ Some place }
     requires range { place < 2048 }
     requires hidden { IsShown board.old.state port.now.vp Sief → ⊥ }
-    requires shadow { IsShadow board.old.state (2 * port.now.vp + 1) page.old }
+    requires shadow { IsShadow board.old.state (2 * port.now.vp + 1) page.old.log }
     requires empty { notices.old ≡ [] }
-    ensures { IsPart board.old.state port.now.vp Sief page.old
-        (Signal number flag) board.new.state page.new result notices.new }
+    ensures part { IsPart board.old.state port.now.vp Sief page.old.log
+        (Signal number flag) board.new.state page.new.log result notices.new }
+    ensures name { page.new.name ≡ page.old.name }
 {
     board.facts();
     let word = 32 * usize::from(port.sint.number()) + usize::from(place / 64);
@@ -140,10 +145,11 @@ pub(crate) fn signal_to(
     requires on { port.now.vp < processors board.old.state }
     requires hidden { (f : ℕ) → signalled_flag board.old.state flag port.now ≡ Some f
         → IsShown board.old.state port.now.vp Sief → ⊥ }
-    requires shadow { IsShadow board.old.state (2 * port.now.vp + 1) page.old }
+    requires shadow { IsShadow board.old.state (2 * port.now.vp + 1) page.old.log }
     requires empty { notices.old ≡ [] }
-    ensures { IsPart board.old.state port.now.vp Sief page.old
-        (Signal number flag) board.new.state page.new result notices.new }
+    ensures part { IsPart board.old.state port.now.vp Sief page.old.log
+        (Signal number flag) board.new.state page.new.log result notices.new }
+    ensures name { page.new.name ≡ page.old.name }
 {
     board.facts();
     let Some(place) = flag_of(board, number, flag, port) else {

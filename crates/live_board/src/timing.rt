@@ -5,17 +5,15 @@ ghost use Rattle.board_terms.specs.declared.pages.Kind.TheVariants.{Sim};
 ghost use Rattle.stimer_bank.specs.Bank.{timer_in};
 ghost use Rattle.stimer_bank.specs.Timer.{is_direct};
 ghost use Rattle.synic_regs.specs.Registers.{register_of};
-ghost use Rattle.synic_board.specs.declared.event.Event.TheVariants.{Write};
-ghost use Rattle.synic_board.specs.declared.event.Reply.TheVariants.{Done};
 ghost use Rattle.synic_board.specs.State.{processors, bank_of};
 ghost use Rattle.live_board.specs.Live.{IsShown};
-ghost use Rattle.live_board.specs.Timers.{is_timer_register, timer_of, is_direct_by, is_direct_write};
+ghost use Rattle.live_board.specs.Timers.{is_timer_register, timer_of, is_direct_by};
 ghost use Rattle.live_board.specs.inside.Parts.{IsShadow, IsTimedPart, IsTimerOf};
 
 use crate::marking::mark_slots;
-use crate::observing::{look_at_slots, view_slots};
+use crate::observing::look_at_slots;
 use crate::passing::is_shown;
-use crate::performing::{perform_after, perform_write};
+use crate::performing::perform_after;
 use crate::publishing::{page_words, publish};
 use board_terms::{Kind, Notices, TimerId, Vp};
 use live_pages::LivePage;
@@ -61,11 +59,12 @@ fn time_shown(
     notices: &mut Notices,
 ) -> (Reply, bool)
     requires timer { IsTimerOf board.old.state vp event.now }
-    requires posted { is_direct_write board.old.state event.now ≡ false }
     requires shown { IsShown board.old.state vp Sim }
-    requires shadow { IsShadow board.old.state (2 * vp) page.old }
+    requires shadow { IsShadow board.old.state (2 * vp) page.old.log }
     requires empty { notices.old ≡ [] }
-    ensures { IsTimedPart board.old.state vp page.old event.now board.new.state page.new result.0 result.1 notices.new }
+    ensures timed { IsTimedPart board.old.state vp page.old.log event.now board.new.state page.new.log result.0
+        result.1 notices.new }
+    ensures name { page.new.name ≡ page.old.name }
 {
     look_at_slots(board, page, vp, scratch, notices);
     board.facts();
@@ -88,11 +87,12 @@ fn time_hidden(
     notices: &mut Notices,
 ) -> (Reply, bool)
     requires timer { IsTimerOf board.old.state vp event.now }
-    requires posted { is_direct_write board.old.state event.now ≡ false }
     requires hidden { IsShown board.old.state vp Sim → ⊥ }
-    requires shadow { IsShadow board.old.state (2 * vp) page.old }
+    requires shadow { IsShadow board.old.state (2 * vp) page.old.log }
     requires empty { notices.old ≡ [] }
-    ensures { IsTimedPart board.old.state vp page.old event.now board.new.state page.new result.0 result.1 notices.new }
+    ensures timed { IsTimedPart board.old.state vp page.old.log event.now board.new.state page.new.log result.0
+        result.1 notices.new }
+    ensures name { page.new.name ≡ page.old.name }
 {
     board.facts();
     let words = page_words(board, vp);
@@ -135,30 +135,6 @@ fn config_of(board: &Board, vp: Vp, index: u8) -> u64
     }
 }
 
-/// Performs a write of a timer in direct mode, which changes no own page.
-#[inline(always)]
-pub(crate) fn time_direct(
-    board: &mut Board,
-    page: &mut LivePage,
-    vp: Vp,
-    number: u8,
-    register: u32,
-    value: u64,
-    scratch: &mut Notices,
-    notices: &mut Notices,
-)
-    requires timer { IsTimerOf board.old.state vp (Write number register value) }
-    requires direct { is_direct_write board.old.state (Write number register value) ≡ true }
-    requires shadow { IsShadow board.old.state (2 * vp) page.old }
-    requires empty { notices.old ≡ [] }
-    ensures { IsTimedPart board.old.state vp page.old
-        (Write number register value) board.new.state page.new Done false notices.new }
-{
-    view_slots(board, page, vp, scratch, notices);
-    board.facts();
-    let _ = perform_write(board, number, register, value, scratch, notices);
-}
-
 /// Performs a write of a timer of a processor, in message mode, and brings its message page up to date.
 /// Returns whether the processor is owed an EOM.
 pub(crate) fn time_posted(
@@ -170,10 +146,11 @@ pub(crate) fn time_posted(
     notices: &mut Notices,
 ) -> (Reply, bool)
     requires timer { IsTimerOf board.old.state vp event.now }
-    requires posted { is_direct_write board.old.state event.now ≡ false }
-    requires shadow { IsShadow board.old.state (2 * vp) page.old }
+    requires shadow { IsShadow board.old.state (2 * vp) page.old.log }
     requires empty { notices.old ≡ [] }
-    ensures { IsTimedPart board.old.state vp page.old event.now board.new.state page.new result.0 result.1 notices.new }
+    ensures timed { IsTimedPart board.old.state vp page.old.log event.now board.new.state page.new.log result.0
+        result.1 notices.new }
+    ensures name { page.new.name ≡ page.old.name }
 {
     if is_shown(board, vp, Kind::Sim) {
         time_shown(board, page, vp, event, scratch, notices)

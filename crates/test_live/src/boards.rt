@@ -1,24 +1,15 @@
 // A live board whose guest does nothing. The scenes borrow what `played` owns: where nothing is
 // owned, a proof stays small for any number of assertions.
-use board_terms::{Kind, Notice, Notices, PortShape, Refusal, Sint, Ticket, Vp};
-use live_board::LiveBoard;
+use board_terms::{Kind, Moment, Notice, Notices, PortShape, Refusal, Sint, Ticket, Vp};
+use live_board::{LiveBoard, LiveNotices};
 use std::alloc::Global;
 use std::process::Abort;
 use synic_board::{Board, Event, Reply, msr};
 
 /// Performs an event after which no processor is owed an EOM.
-fn act(
-    live: &mut LiveBoard,
-    event: &Event,
-    notices: &mut Notices,
-    late: &mut Notices,
-) -> Option<Reply> {
-    let (reply, owed) = live.perform(event, notices, late);
-    if owed == [false; 8] {
-        Some(reply)
-    } else {
-        None
-    }
+fn act(live: &mut LiveBoard, event: &Event, notices: &mut LiveNotices) -> Option<Reply> {
+    let (reply, owed) = live.perform(event, notices);
+    if owed == 0 { Some(reply) } else { None }
 }
 
 fn write(register: u32, value: u64) -> Event {
@@ -57,25 +48,25 @@ fn ported(alloc: Global, notices: &mut Notices) -> Option<Board> {
     Some(board)
 }
 
-/// Plays a scene on a live board and two lists of notices of its own, and returns the next ticket;
-/// `None` if an allocation fails.
+/// Plays a scene on a live board and a list of notices of its own, and returns the next ticket; `None` if
+/// an allocation fails.
 fn played<
     B: FnOnce(Global, &mut Notices) -> Option<Board>,
-    S: FnOnce(&mut LiveBoard, &mut Notices, &mut Notices),
+    S: FnOnce(&mut LiveBoard, &mut LiveNotices),
 >(alloc: Global, board: B, scene: S) -> Option<Ticket>
     requires board { B.IsAlwaysCallable board }
     requires scene { S.IsAlwaysCallable scene }
 {
-    let mut notices = Notices::open(alloc).ok()?;
-    let mut late = Notices::open(alloc).ok()?;
-    let opened = board(alloc, &mut notices)?;
-    let mut live = LiveBoard::open(alloc, opened).ok()?;
-    scene(&mut live, &mut notices, &mut late);
+    let mut opening = Notices::open(alloc).ok()?;
+    let mut notices = LiveNotices::open(alloc).ok()?;
+    let opened = board(alloc, &mut opening)?;
+    let (mut live, _) = LiveBoard::open(alloc, opened).ok()?;
+    scene(&mut live, &mut notices);
     Some(live.into_board().next_ticket())
 }
 
 /// Resets a processor that is on the board.
-fn reset(live: &mut LiveBoard, vp: Vp, notices: &mut Notices) -> Option<Reply> {
+fn reset(live: &mut LiveBoard, vp: Vp, notices: &mut LiveNotices) -> Option<Reply> {
     if vp.number() < live.board().processors() {
         Some(live.reset(vp, notices))
     } else {
@@ -84,21 +75,21 @@ fn reset(live: &mut LiveBoard, vp: Vp, notices: &mut Notices) -> Option<Reply> {
 }
 
 /// Looks at the slots of a processor that is on the board.
-fn observe(live: &mut LiveBoard, vp: Vp, notices: &mut Notices) {
+fn observe(live: &mut LiveBoard, vp: Vp, notices: &mut LiveNotices) {
     if vp.number() < live.board().processors() {
         live.observe(vp, notices);
     }
 }
 
 /// Loads all words of the pages of a processor that is on the board.
-fn settle(live: &mut LiveBoard, vp: Vp, notices: &mut Notices) {
+fn settle(live: &mut LiveBoard, vp: Vp, notices: &mut LiveNotices) {
     if vp.number() < live.board().processors() {
         live.settle(vp, notices);
     }
 }
 
 /// Posts and signals, while the first message stays in its slot.
-fn post_and_signal(rt: &impl Abort, live: &mut LiveBoard, notices: &mut Notices) {
+fn post_and_signal(rt: &impl Abort, live: &mut LiveBoard, notices: &mut LiveNotices) {
     let (vp, sint) = (Vp::new(0).unwrap(), Sint::new(2).unwrap());
     // README live_board: begin
     assert_eq!(rt; live.post(3, 1, b"a", notices), Reply::Accepted(0));
@@ -127,27 +118,22 @@ fn post_and_signal(rt: &impl Abort, live: &mut LiveBoard, notices: &mut Notices)
 
 #[test]
 fn posts_and_signals_reach_the_pages(rt: HostRuntime) {
-    let next = played(rt.alloc(), ported, |live, notices, _| {
+    let next = played(rt.alloc(), ported, |live, notices| {
         post_and_signal(&rt, live, notices)
     });
     assert_eq!(rt; next, Some(3));
 }
 
 /// Signals of a flag while its page is hidden, and once it is seen.
-fn signal_a_hidden_page(
-    rt: &impl Abort,
-    live: &mut LiveBoard,
-    notices: &mut Notices,
-    late: &mut Notices,
-) {
+fn signal_a_hidden_page(rt: &impl Abort, live: &mut LiveBoard, notices: &mut LiveNotices) {
     let vp = Vp::new(0).unwrap();
     // page 2^52 - 1 is SIM's, so that SIEF is not visible there
     let page = 0xffff_ffff_ffff_f001;
-    act(live, &write(msr::SIMP, page), notices, late);
-    act(live, &write(msr::SIEFP, page), notices, late);
+    act(live, &write(msr::SIMP, page), notices);
+    act(live, &write(msr::SIEFP, page), notices);
     assert_eq!(rt; live.signal(4, 7, notices), Reply::FlagWasClear);
     assert_eq!(rt; live.signal(4, 7, notices), Reply::FlagWasSet);
-    act(live, &write(msr::SIEFP, 0x3001), notices, late);
+    act(live, &write(msr::SIEFP, 0x3001), notices);
     assert_eq!(rt; live.signal(4, 7, notices), Reply::FlagWasSet);
     assert_eq!(rt;
         live.post(9, 1, b"", notices),
@@ -159,8 +145,8 @@ fn signal_a_hidden_page(
 
 #[test]
 fn a_page_that_is_not_mapped_is_written(rt: HostRuntime) {
-    let next = played(rt.alloc(), ported, |live, notices, late| {
-        signal_a_hidden_page(&rt, live, notices, late)
+    let next = played(rt.alloc(), ported, |live, notices| {
+        signal_a_hidden_page(&rt, live, notices)
     });
     assert_eq!(rt; next, Some(0));
 }
@@ -173,10 +159,10 @@ fn queue(rt: &impl Abort, board: &mut Board, notices: &mut Notices) {
 }
 
 /// Two EOMs, of which the first places the queued message.
-fn end_twice(rt: &impl Abort, live: &mut LiveBoard, notices: &mut Notices, late: &mut Notices) {
+fn end_twice(rt: &impl Abort, live: &mut LiveBoard, notices: &mut LiveNotices) {
     let (vp, sint) = (Vp::new(0).unwrap(), Sint::new(2).unwrap());
     let eom = write(msr::EOM, 0);
-    assert_eq!(rt; act(live, &eom, notices, late), Some(Reply::Done));
+    assert_eq!(rt; act(live, &eom, notices), Some(Reply::Done));
     assert_eq!(rt;
         notices.as_slice().first(),
         Some(&Notice::Placed {
@@ -185,7 +171,7 @@ fn end_twice(rt: &impl Abort, live: &mut LiveBoard, notices: &mut Notices, late:
             ticket: 1
         })
     );
-    assert_eq!(rt; act(live, &eom, notices, late), Some(Reply::Done));
+    assert_eq!(rt; act(live, &eom, notices), Some(Reply::Done));
     assert_eq!(rt; notices.as_slice().len(), 0);
     observe(live, vp, notices);
     assert_eq!(rt; notices.as_slice().len(), 0);
@@ -203,13 +189,13 @@ fn an_eom_places_what_is_queued(rt: HostRuntime) {
     let next = played(
         rt.alloc(),
         |alloc, notices| queued(&rt, alloc, notices),
-        |live, notices, late| { end_twice(&rt, live, notices, late) },
+        |live, notices| { end_twice(&rt, live, notices) },
     );
     assert_eq!(rt; next, Some(2));
 }
 
 /// A timer whose count has passed when it is started, twice.
-fn start_a_due_timer(rt: &impl Abort, live: &mut LiveBoard, notices: &mut Notices) {
+fn start_a_due_timer(rt: &impl Abort, live: &mut LiveBoard, notices: &mut LiveNotices) {
     let (vp, sint) = (Vp::new(0).unwrap(), Sint::new(2).unwrap());
     let count = Event::Write {
         vp: 0,
@@ -221,12 +207,12 @@ fn start_a_due_timer(rt: &impl Abort, live: &mut LiveBoard, notices: &mut Notice
         register: msr::STIMER0_CONFIG,
         value: 0x20001,
     };
-    assert_eq!(rt; live.write_timer(&count, notices), (Reply::Done, false));
+    assert_eq!(rt; act(live, &count, notices), Some(Reply::Done));
     assert_eq!(rt; notices.as_slice().len(), 0);
-    assert_eq!(rt; live.write_timer(&config, notices), (Reply::Done, false));
+    assert_eq!(rt; act(live, &config, notices), Some(Reply::Done));
     assert_eq!(rt; live.board().next_ticket(), 1);
     assert_eq!(rt; live.board().summary().queued(vp, sint), 0);
-    assert_eq!(rt; live.write_timer(&config, notices), (Reply::Done, false));
+    assert_eq!(rt; act(live, &config, notices), Some(Reply::Done));
     assert_eq!(rt; live.board().summary().queued(vp, sint), 1);
     assert_eq!(rt;
         notices.as_slice().last(),
@@ -249,17 +235,21 @@ fn a_timer_that_is_due_sends_at_once(rt: HostRuntime) {
     let next = played(
         rt.alloc(),
         |alloc, notices| ticked(&rt, alloc, notices),
-        |live, notices, _| { start_a_due_timer(&rt, live, notices) },
+        |live, notices| { start_a_due_timer(&rt, live, notices) },
     );
     assert_eq!(rt; next, Some(2));
 }
 
+fn at(moment: Moment) -> Event {
+    Event::Tick { moment }
+}
+
 /// Ticks before and at two deadlines of a timer, and one back.
-fn tick(rt: &impl Abort, live: &mut LiveBoard, notices: &mut Notices, late: &mut Notices) {
+fn tick(rt: &impl Abort, live: &mut LiveBoard, notices: &mut LiveNotices) {
     let (vp, sint) = (Vp::new(0).unwrap(), Sint::new(2).unwrap());
-    assert_eq!(rt; live.tick(99, notices, late), (Reply::Done, [false; 8]));
+    assert_eq!(rt; act(live, &at(99), notices), Some(Reply::Done));
     assert_eq!(rt; notices.as_slice().len(), 0);
-    assert_eq!(rt; live.tick(100, notices, late), (Reply::Done, [false; 8]));
+    assert_eq!(rt; act(live, &at(100), notices), Some(Reply::Done));
     assert_eq!(rt;
         notices.as_slice().get(2),
         Some(&Notice::Placed {
@@ -268,15 +258,14 @@ fn tick(rt: &impl Abort, live: &mut LiveBoard, notices: &mut Notices, late: &mut
             ticket: 0
         })
     );
-    assert_eq!(rt; live.tick(200, notices, late), (Reply::Done, [false; 8]));
+    assert_eq!(rt; act(live, &at(200), notices), Some(Reply::Done));
     assert_eq!(rt;
         notices.as_slice().last(),
         Some(&Notice::Pending { vp, sint })
     );
-    assert_eq!(rt; late.as_slice().len(), 0);
     assert_eq!(rt;
-        live.tick(100, notices, late).0,
-        Reply::Refused(Refusal::ClockBack)
+        act(live, &at(100), notices),
+        Some(Reply::Refused(Refusal::ClockBack))
     );
     observe(live, vp, notices);
     assert_eq!(rt; notices.as_slice().len(), 0);
@@ -292,19 +281,14 @@ fn periodic(alloc: Global, notices: &mut Notices) -> Option<Board> {
 
 #[test]
 fn a_tick_places_and_marks(rt: HostRuntime) {
-    let next = played(rt.alloc(), periodic, |live, notices, late| {
-        tick(&rt, live, notices, late)
+    let next = played(rt.alloc(), periodic, |live, notices| {
+        tick(&rt, live, notices)
     });
     assert_eq!(rt; next, Some(2));
 }
 
 /// A post and a signal before a reset, and the signal again after it.
-fn reset_between_signals(
-    rt: &impl Abort,
-    live: &mut LiveBoard,
-    notices: &mut Notices,
-    late: &mut Notices,
-) {
+fn reset_between_signals(rt: &impl Abort, live: &mut LiveBoard, notices: &mut LiveNotices) {
     let (vp, sint) = (Vp::new(0).unwrap(), Sint::new(2).unwrap());
     assert_eq!(rt; live.post(3, 1, b"a", notices), Reply::Accepted(0));
     assert_eq!(rt; live.signal(4, 7, notices), Reply::FlagWasClear);
@@ -315,9 +299,9 @@ fn reset_between_signals(
         ticket: 0,
     };
     assert_eq!(rt; notices.as_slice().first(), Some(&withdrawn));
-    act(live, &write(msr::SCONTROL, 1), notices, late);
-    act(live, &write(msr::SIMP, 0x2001), notices, late);
-    act(live, &write(msr::SIEFP, 0x3001), notices, late);
+    act(live, &write(msr::SCONTROL, 1), notices);
+    act(live, &write(msr::SIMP, 0x2001), notices);
+    act(live, &write(msr::SIEFP, 0x3001), notices);
     assert_eq!(rt; live.signal(4, 7, notices), Reply::FlagWasClear);
     observe(live, vp, notices);
     assert_eq!(rt; notices.as_slice().len(), 0);
@@ -325,27 +309,27 @@ fn reset_between_signals(
 
 #[test]
 fn a_reset_withdraws_what_is_left(rt: HostRuntime) {
-    let next = played(rt.alloc(), ported, |live, notices, late| {
-        reset_between_signals(&rt, live, notices, late)
+    let next = played(rt.alloc(), ported, |live, notices| {
+        reset_between_signals(&rt, live, notices)
     });
     assert_eq!(rt; next, Some(1));
 }
 
 /// Loads before and after the page becomes a live one, and two other events.
-fn load(rt: &impl Abort, live: &mut LiveBoard, notices: &mut Notices, late: &mut Notices) {
+fn load(rt: &impl Abort, live: &mut LiveBoard, notices: &mut LiveNotices) {
     let elsewhere = Some(Reply::Refused(Refusal::Elsewhere));
     let load = Event::Load {
         address: 0x2200,
         length: 4,
     };
-    assert!(rt; matches!(act(live, &load, notices, late), Some(Reply::Bytes(_))));
-    act(live, &write(msr::SIMP, 0x2001), notices, late);
-    assert_eq!(rt; act(live, &load, notices, late), elsewhere);
+    assert!(rt; matches!(act(live, &load, notices), Some(Reply::Bytes(_))));
+    act(live, &write(msr::SIMP, 0x2001), notices);
+    assert_eq!(rt; act(live, &load, notices), elsewhere);
     let suspend = Event::Suspend { vp: 0 };
-    assert_eq!(rt; act(live, &suspend, notices, late), Some(Reply::Done));
+    assert_eq!(rt; act(live, &suspend, notices), Some(Reply::Done));
     let reset = Event::Reset { vp: 1 };
     assert_eq!(rt;
-        act(live, &reset, notices, late),
+        act(live, &reset, notices),
         Some(Reply::Refused(Refusal::NoSuchProcessor))
     );
 }
@@ -355,13 +339,13 @@ fn an_access_of_a_live_page_is_the_callers(rt: HostRuntime) {
     let next = played(
         rt.alloc(),
         |alloc, _| Board::open(alloc, 1, 4, 0).ok(),
-        |live, notices, late| { load(&rt, live, notices, late) },
+        |live, notices| { load(&rt, live, notices) },
     );
     assert_eq!(rt; next, Some(0));
 }
 
 /// A post and a signal, and what the board's pages have of them after `settle`.
-fn settle_a_post(rt: &impl Abort, live: &mut LiveBoard, notices: &mut Notices) {
+fn settle_a_post(rt: &impl Abort, live: &mut LiveBoard, notices: &mut LiveNotices) {
     let vp = Vp::new(0).unwrap();
     assert_eq!(rt; live.post(3, 1, b"a", notices), Reply::Accepted(0));
     assert_eq!(rt; live.signal(4, 7, notices), Reply::FlagWasClear);
@@ -376,7 +360,7 @@ fn settle_a_post(rt: &impl Abort, live: &mut LiveBoard, notices: &mut Notices) {
 
 #[test]
 fn a_settle_finds_what_the_host_stored(rt: HostRuntime) {
-    let next = played(rt.alloc(), ported, |live, notices, _| {
+    let next = played(rt.alloc(), ported, |live, notices| {
         settle_a_post(&rt, live, notices)
     });
     assert_eq!(rt; next, Some(1));

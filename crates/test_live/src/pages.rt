@@ -6,7 +6,7 @@ const PENDING: u64 = 1 << 40;
 
 #[test]
 fn a_message_waits_until_the_slot_is_empty(rt: HostRuntime) -> Result<(), Fail> {
-    let mut page = LivePage::open(rt.alloc())?;
+    let (mut page, _) = LivePage::open(rt.alloc())?;
     let mut image = [0; SLOT_WORDS];
     image[0] = 1;
     image[31] = 7;
@@ -27,7 +27,7 @@ fn a_message_waits_until_the_slot_is_empty(rt: HostRuntime) -> Result<(), Fail> 
 
 #[test]
 fn a_probe_marks_what_is_occupied(rt: HostRuntime) -> Result<(), Fail> {
-    let mut page = LivePage::open(rt.alloc())?;
+    let (mut page, _) = LivePage::open(rt.alloc())?;
     assert_eq!(rt; page.probe(15), Probe::Empty { header: 0 });
     assert_eq!(rt; page.load(480), 0);
     page.store(480, 0xffff_ffff);
@@ -50,7 +50,7 @@ fn a_probe_marks_what_is_occupied(rt: HostRuntime) -> Result<(), Fail> {
 
 #[test]
 fn words_are_apart(rt: HostRuntime) -> Result<(), Fail> {
-    let mut page = LivePage::open(rt.alloc())?;
+    let (mut page, _) = LivePage::open(rt.alloc())?;
     for word in 0..WORDS {
         assert_eq!(rt; page.load(word), 0);
         page.store(word, word as u64 + 1);

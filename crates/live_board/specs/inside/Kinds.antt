@@ -28,6 +28,12 @@ is_quiet (Tick moment) = false
 is_quiet (Reset p) = false
 is_quiet _ = true
 
+-- an event after which no processor is owed an EOM: neither a write of a register nor a tick
+abbrev pub owes_nothing : Event → Bool
+owes_nothing (Write p number value) = false
+owes_nothing (Tick moment) = false
+owes_nothing _ = true
+
 -- a write of a register of a processor
 abbrev pub IsWriteTo : ℕ → ℕ → Event → Type 0
 IsWriteTo p number (Write q other value) = (q ≡ p) × (other ≡ number)

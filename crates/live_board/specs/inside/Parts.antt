@@ -1,17 +1,14 @@
 -- The parts of a call on a live board.
-use Rattle.std.specs.Prelude.{◌-◌, Bool, true, false, slice_index_or, ◌*◌, ◌/◌, ◌%◌, ◌^◌, ◌==◌, ◌&&◌, is_none, Option, None, Some, nat_lt, if◌then◌else◌, ◌≡◌, ◌≢◌, ◌⊎◌, ℕ, ◌≤◌, ◌<◌, List, [], ◌∷◌, ◌++◌, length, slice_index, bit_or, ◌+◌}
+use Rattle.std.specs.Prelude.{Bool, true, false, slice_index_or, slice_set, ◌*◌, ◌/◌, ◌%◌, ◌^◌, ◌==◌, ◌&&◌, is_none, Some, if◌then◌else◌, ◌≡◌, ◌≢◌, ◌⊎◌, ℕ, ◌≤◌, ◌<◌, List, [], ◌∷◌, ◌++◌, length, slice_index, bit_or, ◌+◌}
 use Rattle.board_terms.specs.declared.notices.Notice.{Notice}
 use Rattle.board_terms.specs.declared.pages.Kind.{Kind}
 use Rattle.gpa_space.specs.Space.{overlay_of}
 use Rattle.event_ports.specs.declared.ports.Port.{Port}
 use Rattle.event_ports.specs.Ports.{port_at, is_posted_type}
 use Rattle.event_ports.specs.Shapes.{takes_messages}
-use Rattle.synic_board.specs.State.{State, processors, ports_of, regs_of}
+use Rattle.synic_board.specs.State.{State, processors, ports_of}
 use Rattle.synic_board.specs.Delivery.{delivers, is_slot_empty}
 use Rattle.synic_board.specs.Slots.{slot_byte}
-use Rattle.board_terms.specs.declared.messages.PortShape.{PortShape}
-use Rattle.board_terms.specs.declared.messages.PortShape.TheVariants.{Messages, Flags}
-use Rattle.synic_regs.specs.Regs.{has, enable}
 use Rattle.synic_board.specs.Posts.{post_refusal}
 use Rattle.synic_board.specs.Run.{run_of}
 use Rattle.synic_board.specs.Step.{step}
@@ -21,16 +18,18 @@ use Rattle.synic_board.specs.declared.event.Event.TheVariants.{Write, Tick}
 use Rattle.synic_regs.specs.declared.register.Register.TheVariants.{Eom}
 use Rattle.synic_regs.specs.Registers.{register_of}
 use Rattle.synic_board.specs.declared.event.Reply.{Reply}
-use Rattle.synic_board.specs.declared.event.Reply.TheVariants.{FlagWasSet, FlagWasClear}
 use Rattle.board_terms.specs.declared.pages.Kind.TheVariants.{Sim, Sief}
 use Rattle.live_pages.specs.Slot.{known, type_of, is_pending}
 use Rattle.live_pages.specs.declared.access.Access.{Access}
 use Rattle.live_pages.specs.declared.access.Access.TheVariants.{Load, FetchOr}
-use Rattle.live_board.specs.Timers.{is_timer_register, is_direct_write}
+use Rattle.live_board.specs.Timers.{is_timer_register}
 use Rattle.std.specs.Option.{option_map_or}
+use Rattle.live_board.specs.Signals.{signalled_flag}
 use Rattle.live_board.specs.Words.{word_of}
 use Rattle.live_board.specs.Settling.{AreLoads, AreAllLoads}
-use Rattle.live_board.specs.Live.{store_of, explained, all_done, AreCareful, HasLooked, AreLooks, AreStores, AreProbes, IsProbe, is_waiting, IsShown, explained_after, AreMarks, finds_empty, AreTimed, AreDueDirect, looked_from, marked_from, AreClears}
+use Rattle.live_pages.specs.Page.{Page, GuestModel, guest_of}
+use Rattle.live_board.specs.Live.{guests_of, store_of, explained, all_done, AreCareful, HasLooked, AreReads, ArePlaced, ArePuts, IsStoredAnew, AreLooks, AreStores, AreProbes, IsProbe, is_waiting, IsShown, explained_after, AreMarks, finds_empty, AreTimed, AreDueDirect, looked_from, marked_from, has_processor, AreClears}
+use Rattle.live_board.specs.inside.Pages.{logs_of, names_of}
 
 -- a word that the host found is a guest's store if the reference model has another one
 abbrev pub found_stores : State → ℕ → Kind → ℕ → ℕ → List Event
@@ -52,6 +51,18 @@ pub record HasWord (s : State) (o w value : ℕ) (now : State) : Type 0 where
 -- each word of one own page is what the host last found or wrote
 abbrev pub IsShadow : State → ℕ → List Access → Type 0
 IsShadow s o log = (w : ℕ) → w < 512 → known log w ≡ word_of s o w
+
+-- one page more has the words of an own page, and its guest has made no turn
+abbrev pub IsCopied : State → ℕ → List Page → List GuestModel → List Page → List GuestModel → Type 0
+IsCopied s o pages guests pages-now guests-now =
+    (page : Page) × (pages-now ≡ pages ++ page ∷ []) × (guests-now ≡ guests ++ guest_of page.name [] ∷ [])
+    × IsShadow s o page.log
+
+-- the pages below k have the words of the own pages, and their guests have made no turn
+abbrev pub AreCopied : State → ℕ → List Page → List GuestModel → Type 0
+AreCopied s k pages guests =
+    (length pages ≡ k) × ((j w : ℕ) → j < k → w < 512 → known (slice_index_or (logs_of pages) j []) w ≡ word_of s j w)
+    × (guests ≡ guests_of (names_of pages))
 
 -- the other own pages are the same
 abbrev pub LeavesOthers : State → ℕ → State → Type 0
@@ -111,15 +122,15 @@ is_attempted s number kind port =
     ((takes_messages port.shape && is_posted_type kind) && is_none (post_refusal s number port.vp port.shape))
     && delivers s port.vp
 
--- the words of own pages after what attempts at most at one source: those of other slots stay; if nothing is
--- attempted all stay;
--- an occupied slot is marked
+-- the words of own pages after what attempts at most at one source: those of other slots stay; if nothing is attempted
+-- all stay; an occupied slot is marked
 pub record Attempts (s : State) (p i : ℕ) (made : Bool) (now : State) : Type 0 where
   pub count : length now.own ≡ length s.own
   pub others : (j x : ℕ) → x < 512 → (j ≢ 2 * p) ⊎ (x / 32 ≢ i) → word_of now j x ≡ word_of s j x
   pub idle : made ≡ false → (j x : ℕ) → word_of now j x ≡ word_of s j x
   pub marks : made ≡ true → is_slot_empty s p i ≡ false → (x : ℕ) → x < 512
       → word_of now (2 * p) x ≡ (if x == 32 * i then bit_or (word_of s (2 * p) x) (2 ^ 40) else word_of s (2 * p) x)
+  pub fills : made ≡ true → is_slot_empty s p i ≡ true → is_slot_empty now p i ≡ false
 
 -- the words of a slot
 abbrev pub AreSlotWords : State → ℕ → ℕ → List ℕ → Type 0
@@ -133,16 +144,18 @@ pub record IsFilled (i header : ℕ) (after : List ℕ) (log now : List Access) 
   pub careful : type_of header ≡ 0 → AreCareful Sim news log
   pub words : (k : ℕ) → k < 32 → known now (32 * i + k) ≡ slice_index after k
   pub others : (x : ℕ) → x / 32 ≢ i → known now x ≡ known log x
+  -- all its words are stored, the header last and another one, or none
+  pub placed : ((slice_index after 0 ≡ header) × (news ≡ [])) ⊎ IsStoredAnew i (slice_index after) log news
 
 -- its words 1 to k - 1 are stored
-pub record IsFilling (i header : ℕ) (before after : List ℕ) (k : ℕ) (log now : List Access) : Type 0 where
+pub record IsFilling (i header : ℕ) (after : List ℕ) (k : ℕ) (log now : List Access) : Type 0 where
   pub news : List Access
   pub page : now ≡ news ++ log
+  pub placed : (n : ℕ) → k ≡ n + 1 → ArePuts i (slice_index after) n news
   pub stores : AreStores news
   pub careful : type_of header ≡ 0 → AreCareful Sim news log
   pub head : known now (32 * i) ≡ header
   pub done : (j : ℕ) → 1 ≤ j → j < k → known now (32 * i + j) ≡ slice_index after j
-  pub left : (j : ℕ) → 1 ≤ j → k ≤ j → j < 32 → known now (32 * i + j) ≡ slice_index before j
   pub others : (x : ℕ) → x / 32 ≢ i → known now x ≡ known log x
 
 -- the header of a port's slot was found, and is marked if a post makes an attempt there that finds it occupied
@@ -156,6 +169,7 @@ pub record IsFound (s : State) (number kind : ℕ) (port : Port) (log : List Acc
   pub known_here : known log_now (32 * port.sint) ≡ left
   pub others : (x : ℕ) → x < 512 → x ≢ 32 * port.sint → known log_now x ≡ word_of now (2 * port.vp) x
   pub looked : HasLooked (32 * port.sint) log log_now
+  pub reads : AreReads port.sint watched.news
   pub exact : ((left ≡ header)
       × ((type_of header ≡ 0) ⊎ ((is_pending header ≡ true) ⊎ (is_attempted s number kind port ≡ false))))
       ⊎ ((left ≡ bit_or header (2 ^ 40)) × (is_attempted s number kind port ≡ true))
@@ -186,21 +200,6 @@ pub record IsPart (s : State) (p : ℕ) (k : Kind) (log : List Access) (event : 
   pub shadow : IsShadow now (overlay_of p k) log_now
   pub others : LeavesOthers s (overlay_of p k) now
   pub count : length now.own ≡ length s.own
-
--- the flag that a signal of an open port sets, if it is accepted
-abbrev pub flag_by : State → ℕ → ℕ → PortShape → Option ℕ
-flag_by s p flag (Messages buffers) = None
-flag_by s p flag (Flags base count) =
-    if nat_lt flag count && (has (regs_of s p).control enable && has (regs_of s p).sief enable)
-    then Some (base + flag) else None
-
-abbrev pub signalled_flag : State → ℕ → Port → Option ℕ
-signalled_flag s flag port = flag_by s port.vp flag port.shape
-
--- the reply to a signal that is accepted: whether the flag was set
-abbrev pub signal_reply : Bool → Reply
-signal_reply true = FlagWasSet
-signal_reply false = FlagWasClear
 
 -- a signal that the board refuses, or of a flag in a page that the guest does not see
 abbrev pub IsUnseen : State → ℕ → ℕ → Type 0
@@ -301,6 +300,7 @@ pub record IsPublished (s : State) (p : ℕ) (shown : Bool) (words : List ℕ) (
   pub news : List Access
   pub page : now ≡ news ++ log
   pub stores : AreStores news
+  pub placed : ArePlaced n log news
   pub careful : shown ≡ true → AreCareful Sim news log
   pub done : (x : ℕ) → x < 512 → x / 32 < n → (shown ≡ false) ⊎ (type_of (slice_index words (32 * (x / 32))) ≡ 0)
       → known now x ≡ word_of s (2 * p) x
@@ -389,7 +389,6 @@ pub record IsTimedPart (s : State) (p : ℕ) (log : List Access) (event : Event)
         notices,
       )
   pub owes : owed ≡ finds_empty marks
-  pub direct : is_direct_write s event ≡ true → (stores ≡ []) × (marks ≡ [])
   pub shadow : IsShadow now (2 * p) log_now
   pub others : LeavesOthers s (2 * p) now
   pub count : length now.own ≡ length s.own
@@ -417,6 +416,13 @@ pub record IsFirst (s : State) (p : ℕ) (log : List Access) (now : State) (log_
   pub notices : after ≡ before ++ emitted
   pub viewed : IsViewed s p log now log_now emitted
 
+-- the same at the page of a processor, among all pages
+pub record IsFirstAt (s : State) (p : ℕ) (pages : List (List Access)) (now : State) (pages_now : List (List Access))
+    (before after : List Notice) : Type 0 where
+  pub log : List Access
+  pub first : IsFirst s p (slice_index_or pages (2 * p) []) now log before after
+  pub changed : pages_now ≡ slice_set pages (2 * p) log
+
 -- a message page is brought up to date after a tick
 pub record IsFinished (s : State) (p : ℕ) (log : List Access) (now : State) (log_now : List Access) (owed : Bool)
     (before after : List Notice) : Type 0 where
@@ -427,6 +433,7 @@ pub record IsFinished (s : State) (p : ℕ) (log : List Access) (now : State) (l
   pub marks : List Access
   pub page : log_now ≡ marks ++ (stores ++ log)
   pub stored : AreStores stores
+  pub placed : ArePlaced 16 log stores
   pub marked : AreMarks marks
   pub careful : IsShown s p Sim → AreCareful Sim stores log
   pub hidden : (IsShown s p Sim → ⊥) → marks ≡ []
@@ -449,14 +456,16 @@ AreDirectAt s p _ = ⊥
 
 -- a tick, with the looks, stores and marks of the m message pages from k on
 pub record IsTickFrom (s : State) (k m : ℕ) (pages : List (List Access)) (event : Event) (now : State)
-    (pages_now : List (List Access)) (reply : Reply) (owed : List Bool) (before after late : List Notice) : Type 0 where
+    (pages_now : List (List Access)) (reply : Reply) (owed : ℕ) (before after : List Notice) : Type 0 where
   pub looks : ℕ → List Access
   pub stores : ℕ → List Access
   pub marks : ℕ → List Access
   pub emitted : List Notice
   pub notices : after ≡ before ++ emitted
-  pub few : length late ≤ 16 * m
-  pub are : (p : ℕ) → k ≤ p → p < k + m → AreTimed s p (looks p) (stores p) (marks p) (slice_index_or pages (2 * p) [])
+  pub few : length emitted ≤ 32 * m + 192
+  pub posted : (p : ℕ) → k ≤ p → p < k + m → (AreDirectAt s p event → ⊥)
+      → AreTimed s p (looks p) (stores p) (marks p) (slice_index_or pages (2 * p) [])
+  pub direct : (p : ℕ) → k ≤ p → p < k + m → AreDirectAt s p event → (looks p ≡ []) × (stores p ≡ []) × (marks p ≡ [])
   pub logs : (p : ℕ) → k ≤ p → p < k + m
       → slice_index_or pages_now (2 * p) [] ≡ marks p ++ (stores p ++ (looks p ++ slice_index_or pages (2 * p) []))
   pub lower : (p : ℕ) → p < k → slice_index_or pages_now (2 * p) [] ≡ slice_index_or pages (2 * p) []
@@ -467,7 +476,7 @@ pub record IsTickFrom (s : State) (k m : ℕ) (pages : List (List Access)) (even
         now,
         all_done (looked_from s pages looks k m)
             ++ reply ∷ all_done (marked_from s pages looks stores marks k m),
-        emitted ++ late,
+        emitted,
       )
   pub shadow : (p : ℕ) → k ≤ p → p < k + m → IsShadow now (2 * p) (slice_index_or pages_now (2 * p) [])
   pub regs : now.regs ≡ s.regs
@@ -477,25 +486,11 @@ pub record IsTickFrom (s : State) (k m : ℕ) (pages : List (List Access)) (even
   pub odd : (p x : ℕ) → x < 512 → word_of now (2 * p + 1) x ≡ word_of s (2 * p + 1) x
   pub slots : (p i : ℕ) → p < k → i < 16 → is_slot_empty s p i ≡ false → SlotGrows s p i now
   pub fills : (p i : ℕ) → p < k → i < 16 → is_slot_empty s p i ≡ true → SlotFills s p i now
-  pub eight : length owed ≡ 8
-  pub owes : (p : ℕ) → k ≤ p → p < k + m → slice_index_or owed p false ≡ finds_empty (marks p)
-  pub unowed : (p : ℕ) → p < k → slice_index_or owed p false ≡ false
+  pub owes : (p : ℕ) → k ≤ p → p < k + m → has_processor owed p ≡ finds_empty (marks p)
+  pub unowed : (p : ℕ) → p < k → has_processor owed p ≡ false
+  pub beyond : (p : ℕ) → k + m ≤ p → has_processor owed p ≡ false
   pub still : (p : ℕ) → p < k → AreDirectAt s p event
       → slice_index_or now.own (2 * p) [] ≡ slice_index_or s.own (2 * p) []
-  pub direct : (p : ℕ) → k ≤ p → p < k + m → AreDirectAt s p event → (stores p ≡ []) × (marks p ≡ [])
-
--- looks at the message pages below n, after which a tick on the others is one on all, if the due timers of these are
--- in direct mode
-pub record HaveLooked (s : State) (pages : List (List Access)) (n : ℕ) (mid : State) (pages_mid : List (List Access))
-    (notices : List Notice) : Type 0 where
-  pub rest : mid ≡ record s { own = mid.own; slots = mid.slots }
-  pub size : length pages_mid ≡ length pages
-  pub few : length notices ≤ 16 * n
-  pub shadow : (p : ℕ) → n ≤ p → p < processors s → IsShadow mid (2 * p) (slice_index_or pages_mid (2 * p) [])
-  pub before : (event : Event) (now : State) (pages_now : List (List Access)) (reply : Reply) (owed : List Bool)
-      (after late : List Notice) → ((p : ℕ) → p < n → AreDirectAt s p event)
-      → IsTickFrom mid n (processors s - n) pages_mid event now pages_now reply owed notices after late
-      → IsTickFrom s 0 (processors s) pages event now pages_now reply owed [] after late
 
 -- all words of a page are stored, below n
 pub record IsCleared (n : ℕ) (log now : List Access) : Type 0 where

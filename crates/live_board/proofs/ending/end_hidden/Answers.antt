@@ -20,10 +20,10 @@ publish-requires-clause-kept c =
     (λ i under. ap type_of (c.page_words-words.ensures.words (32 * i) (omega (arith, under))))
     (eom-ends s _ _ _ _ _ c.requires.eom one.step c.facts.ensures.sound c.facts.ensures.shape c.facts.ensures.ranges)
 
-pub returns : goal.returns
-returns c =
+pub returns-clause-part : goal.returns-clause-part
+returns-clause-part c =
     let s : State = c.args.board.now.state in
     let one = c.perform_after-reply.ensures in
     let ends = eom-ends s _ _ _ _ _ c.requires.eom one.step c.facts.ensures.sound c.facts.ensures.shape
     c.facts.ensures.ranges in
-    part-ended-hidden s _ _ _ _ _ _ _ _ _ c.requires.empty c.requires.hidden one ends c.publish.ensures
+    part-ended-hidden s _ _ _ _ _ _ _ _ _ c.requires.empty c.requires.hidden one ends c.publish.ensures.published

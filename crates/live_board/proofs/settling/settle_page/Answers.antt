@@ -3,12 +3,12 @@ use Rattle.live_board.specs.Live.{IsShown}
 use Rattle.live_board.proofs.Settled.{loaded-shown, loaded-hidden}
 use Rattle.live_board.proofs.settling.settle_page.Goals as goal
 
-pub returns-then-is_shown : goal.returns-then-is_shown
-returns-then-is_shown c =
+pub returns-then-is_shown-clause-loaded : goal.returns-then-is_shown-clause-loaded
+returns-then-is_shown-clause-loaded c =
     let shown : IsShown c.args.board.now.state c.args.vp c.args.kind = c.is_shown.ensures.0 c.if-is_shown.true in
-    loaded-shown _ _ _ _ _ _ _ _ shown c.load_words.ensures
+    loaded-shown _ _ _ _ _ _ _ _ shown c.load_words.ensures.loads
 
-pub returns-else-is_shown : goal.returns-else-is_shown
-returns-else-is_shown c =
+pub returns-else-is_shown-clause-loaded : goal.returns-else-is_shown-clause-loaded
+returns-else-is_shown-clause-loaded c =
     let hidden : IsShown c.args.board.now.state c.args.vp c.args.kind → ⊥ = search rules in
     loaded-hidden _ _ _ _ _ hidden c.requires.shadow

@@ -4,6 +4,7 @@ use Rattle.live_pages.specs.declared.access.Access.TheVariants.{Store}
 use Rattle.live_board.specs.Words.{word_of}
 use Rattle.live_board.proofs.Staying.{stays}
 use Rattle.live_board.proofs.Signalled.{set-by, part-stored}
+use Rattle.live_board.proofs.Named.{logged}
 use Rattle.live_board.proofs.signalling.signal_hidden.Goals as goal
 
 pub own_word-requires-clause-on : goal.own_word-requires-clause-on
@@ -11,8 +12,8 @@ own_word-requires-clause-on c =
     let same =
     stays _ _ _ _ _ tt c.facts.ensures.sound c.perform_signal-reply.ensures.step in omega (arith, same, c.requires.on)
 
-pub returns : goal.returns
-returns c =
+pub returns-clause-part : goal.returns-clause-part
+returns-clause-part c =
     let s : State = c.args.board.now.state in
     let one = c.perform_signal-reply.ensures in
     let word : 32 * c.from.result + c.from-2.result ≡ 32 * c.args.port.now.sint + c.args.place / 64 = search rules in
@@ -21,8 +22,9 @@ returns c =
     c.requires.place c.requires.range c.requires.source c.facts.ensures.shape c.facts.ensures.ranges c.requires.on
     one in
     let stored =
-    c.store.ensures ∙ (λ i. Store (32 * c.from.result + c.from-2.result) (c.own_word.ensures i) ∷ c.args.page.now)
-    ∙ ap (λ w. Store w (word_of now (2 * c.args.port.now.vp + 1) w) ∷ c.args.page.now) word in
+    (logged c.store.ensures) ∙ (λ i. Store (32 * c.from.result + c.from-2.result) (c.own_word.ensures i) ∷
+    c.args.page.now.log)
+    ∙ ap (λ w. Store w (word_of now (2 * c.args.port.now.vp + 1) w) ∷ c.args.page.now.log) word in
     part-stored s now c.args.port.now.vp
     (32 * c.args.port.now.sint + c.args.place / 64) _ _ _ _ _ _ _ c.requires.empty
     (omega (arith, c.requires.source, c.requires.range)) c.requires.shadow one set stored c.requires.hidden

@@ -1,19 +1,21 @@
-use Rattle.std.proofs.Common.{rules, ◌≡◌, ◌<◌, ◌*◌, ◌+◌, ◌/◌, ◌%◌, ◌^◌, true, false, arith, refl, sym, ap, ◌∙◌, subst, Some}
+use Rattle.std.proofs.Common.{rules, ◌≡◌, ◌<◌, ◌*◌, ◌+◌, ◌/◌, ◌%◌, ◌^◌, true, false, arith, refl, sym, ap, ◌∙◌, subst, Some, ◌∷◌}
 use Rattle.event_ports.specs.Ports.{port_at}
 use Rattle.synic_board.specs.declared.event.Event.TheVariants.{Signal}
 use Rattle.synic_board.specs.declared.event.Reply.{Reply}
 use Rattle.synic_board.specs.State.{State, processors, ports_of}
 use Rattle.live_board.specs.inside.Parts.{IsStep}
+use Rattle.live_board.specs.Signals.{signal_reply}
+use Rattle.live_pages.specs.declared.access.Access.TheVariants.{FetchOr}
 use Rattle.live_board.proofs.Again.{set-again, set-anew, flag-seen}
 use Rattle.live_board.proofs.Signalled.{set-by, part-marked, rest-signalled, mark-at}
 use Rattle.live_board.proofs.signalling.signal_shown.Goals as goal
 
-pub returns-then-is_set : goal.returns-then-is_set
-returns-then-is_set c =
+pub returns-then-is_set-clause-part : goal.returns-then-is_set-clause-part
+returns-then-is_set-clause-part c =
     let s : State = c.args.board.now.state in
     let mid : State = c.mark-found.new.board.state in
     let port = c.args.port.now in
-    let m = c.mark-found.ensures in
+    let m = c.mark-found.ensures.mark in
     let word : 32 * c.from.result + c.from-2.result ≡ 32 * port.sint + c.args.place / 64 = search rules in
     let mask : 1 * 2 ^ (c.args.place % 64) % 2 ^ 64 ≡ 2 ^ (c.args.place % 64) = search rules in
     let marked = mark-at _ _ _ _ _ _ _ _ _ _ _ _ word mask m in
@@ -32,12 +34,12 @@ returns-then-is_set c =
     part-marked s mid mid port.vp (32 * port.sint + c.args.place / 64) _ _ _ _ _ _ _ _ _ c.requires.empty
     (omega (arith, c.requires.source, c.requires.range)) c.requires.shadow marked one set
 
-pub returns : goal.returns
-returns c =
+pub returns-clause-part : goal.returns-clause-part
+returns-clause-part c =
     let s : State = c.args.board.now.state in
     let mid : State = c.mark-found.new.board.state in
     let port = c.args.port.now in
-    let m = c.mark-found.ensures in
+    let m = c.mark-found.ensures.mark in
     let word : 32 * c.from.result + c.from-2.result ≡ 32 * port.sint + c.args.place / 64 = search rules in
     let mask : 1 * 2 ^ (c.args.place % 64) % 2 ^ 64 ≡ 2 ^ (c.args.place % 64) = search rules in
     let marked = mark-at _ _ _ _ _ _ _ _ _ _ _ _ word mask m in
@@ -58,3 +60,27 @@ returns c =
     c.requires.source c.facts-2.ensures.shape c.facts-2.ensures.ranges on one in
     part-marked s mid _ port.vp (32 * port.sint + c.args.place / 64) _ _ _ _ _ _ _ _ _ c.requires.empty
     (omega (arith, c.requires.source, c.requires.range)) c.requires.shadow marked one set
+
+pub returns-then-is_set-clause-set : goal.returns-then-is_set-clause-set
+returns-then-is_set-clause-set c =
+    let port = c.args.port.now in
+    let m = c.mark-found.ensures.mark in
+    let word : 32 * c.from.result + c.from-2.result ≡ 32 * port.sint + c.args.place / 64 = search rules in
+    let mask : 1 * 2 ^ (c.args.place % 64) % 2 ^ 64 ≡ 2 ^ (c.args.place % 64) = search rules in
+    let bit : c.is_set.result ≡ true = search rules in (
+      c.mark-found.result,
+      m.page ∙ (λ i. FetchOr (word i) (mask i) c.mark-found.result ∷ c.args.page.now.log),
+      ap signal_reply (sym bit ∙ c.is_set.ensures),
+    )
+
+pub returns-clause-set : goal.returns-clause-set
+returns-clause-set c =
+    let port = c.args.port.now in
+    let m = c.mark-found.ensures.mark in
+    let word : 32 * c.from.result + c.from-2.result ≡ 32 * port.sint + c.args.place / 64 = search rules in
+    let mask : 1 * 2 ^ (c.args.place % 64) % 2 ^ 64 ≡ 2 ^ (c.args.place % 64) = search rules in
+    let bit : c.is_set.result ≡ false = search rules in (
+      c.mark-found.result,
+      m.page ∙ (λ i. FetchOr (word i) (mask i) c.mark-found.result ∷ c.args.page.now.log),
+      ap signal_reply (sym bit ∙ c.is_set.ensures),
+    )

@@ -1,12 +1,12 @@
 use Rattle.std.proofs.Common.{rules, ◌≡◌, ap, ◌∙◌}
 use Rattle.std.specs.Prelude.{None}
 use Rattle.board_terms.specs.declared.pages.Kind.TheVariants.{Sief}
-use Rattle.live_board.specs.inside.Parts.{signalled_flag}
+use Rattle.live_board.specs.Signals.{signalled_flag}
 use Rattle.live_board.proofs.Signalled.{own-stepped, after_signal, part-untouched}
 use Rattle.live_board.proofs.signalling.signal_to.Goals as goal
 
-pub returns-in_default : goal.returns-in_default
-returns-in_default c =
+pub returns-in_default-clause-part : goal.returns-in_default-clause-part
+returns-in_default-clause-part c =
     let s = c.args.board.now.state in
     let port = c.args.port.now in
     let one = c.perform_signal.ensures in

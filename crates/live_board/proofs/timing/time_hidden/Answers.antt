@@ -17,10 +17,10 @@ publish-requires-clause-kept c =
     on (timer-stays s _ _ _ _ _ c.requires.timer c.facts.ensures.sound one.step) c.page_words-words.ensures.words
     (λ i under full. grows.slots _ i on under full) (λ i under empty. grows.fills _ i on under empty)
 
-pub returns : goal.returns
-returns c =
+pub returns-clause-timed : goal.returns-clause-timed
+returns-clause-timed c =
     let s : State = c.args.board.now.state in
     let one = c.perform_after-reply.ensures in
     let grows = timer-grows s _ _ _ _ _ c.requires.timer one.step c.facts.ensures.sound in
-    part-timed-hidden s _ _ _ _ _ _ _ _ _ c.requires.posted c.requires.empty c.requires.hidden one grows
-    c.publish.ensures
+    part-timed-hidden s _ _ _ _ _ _ _ _ _ c.requires.empty c.requires.hidden one grows
+    c.publish.ensures.published

@@ -10,18 +10,18 @@ pub publish-requires-clause-on : goal.publish-requires-clause-on
 publish-requires-clause-on c =
     let mid : State = c.look_at_slots.new.board.state in
     timer-stays mid _ _ _ _ _
-    (rest-timer c.args.board.now.state mid _ _ c.look_at_slots.ensures.watched.rest c.requires.timer)
+    (rest-timer c.args.board.now.state mid _ _ c.look_at_slots.ensures.looks.watched.rest c.requires.timer)
     c.facts.ensures.sound c.perform_after-reply.ensures.step
 
 pub publish-requires-clause-known : goal.publish-requires-clause-known
 publish-requires-clause-known c x low =
-    c.look_at_slots.ensures.shadow x low ∙ sym (c.page_words-words.ensures.words x low)
+    c.look_at_slots.ensures.looks.shadow x low ∙ sym (c.page_words-words.ensures.words x low)
 
 pub publish-requires-clause-kept : goal.publish-requires-clause-kept
 publish-requires-clause-kept c =
     let mid : State = c.look_at_slots.new.board.state in
     let one = c.perform_after-reply.ensures in
-    let timer = rest-timer c.args.board.now.state mid _ _ c.look_at_slots.ensures.watched.rest c.requires.timer in
+    let timer = rest-timer c.args.board.now.state mid _ _ c.look_at_slots.ensures.looks.watched.rest c.requires.timer in
     let grows = timer-grows mid _ _ _ _ _ timer one.step c.facts.ensures.sound in
     let on = timer-on mid _ _ timer in
     kept-grown mid _ _ _ c.facts.ensures.shape c.facts.ensures.ranges c.facts-2.ensures.shape c.facts-2.ensures.ranges
@@ -32,25 +32,25 @@ pub mark_slots-owed-requires-clause-on : goal.mark_slots-owed-requires-clause-on
 mark_slots-owed-requires-clause-on c =
     let mid : State = c.look_at_slots.new.board.state in
     timer-stays mid _ _ _ _ _
-    (rest-timer c.args.board.now.state mid _ _ c.look_at_slots.ensures.watched.rest c.requires.timer)
+    (rest-timer c.args.board.now.state mid _ _ c.look_at_slots.ensures.looks.watched.rest c.requires.timer)
     c.facts.ensures.sound c.perform_after-reply.ensures.step
 
 pub mark_slots-owed-requires-clause-shown : goal.mark_slots-owed-requires-clause-shown
 mark_slots-owed-requires-clause-shown c =
     let s : State = c.args.board.now.state in
     let mid : State = c.look_at_slots.new.board.state in
-    let timer = rest-timer s mid _ _ c.look_at_slots.ensures.watched.rest c.requires.timer in
+    let timer = rest-timer s mid _ _ c.look_at_slots.ensures.looks.watched.rest c.requires.timer in
     let grows = timer-grows mid _ _ _ _ _ timer c.perform_after-reply.ensures.step c.facts.ensures.sound in
     shown-same mid c.perform_after-reply.new.board.state _ grows.regs grows.pages
-    (rest-shown s mid _ Sim c.look_at_slots.ensures.watched.rest c.requires.shown)
+    (rest-shown s mid _ Sim c.look_at_slots.ensures.looks.watched.rest c.requires.shown)
 
 pub mark_slots-owed-requires-clause-payload : goal.mark_slots-owed-requires-clause-payload
 mark_slots-owed-requires-clause-payload c =
     let mid : State = c.look_at_slots.new.board.state in
-    let timer = rest-timer c.args.board.now.state mid _ _ c.look_at_slots.ensures.watched.rest c.requires.timer in
+    let timer = rest-timer c.args.board.now.state mid _ _ c.look_at_slots.ensures.looks.watched.rest c.requires.timer in
     let grows = timer-grows mid _ _ _ _ _ timer c.perform_after-reply.ensures.step c.facts.ensures.sound in
-    timed-payload _ _ _ _ _ (λ x low. c.look_at_slots.ensures.shadow x low
-    ∙ sym (c.page_words-words.ensures.words x low)) c.publish.ensures
+    timed-payload _ _ _ _ _ (λ x low. c.look_at_slots.ensures.looks.shadow x low
+    ∙ sym (c.page_words-words.ensures.words x low)) c.publish.ensures.published
     (words-grow mid _ _ _ c.page_words-words.ensures.words
     (λ i under full. grows.slots _ i (timer-on mid _ _ timer) under full) c.facts.ensures.shape
     c.facts.ensures.ranges (timer-on mid _ _ timer))
@@ -58,10 +58,10 @@ mark_slots-owed-requires-clause-payload c =
 pub mark_slots-owed-requires-clause-known : goal.mark_slots-owed-requires-clause-known
 mark_slots-owed-requires-clause-known c =
     let mid : State = c.look_at_slots.new.board.state in
-    let timer = rest-timer c.args.board.now.state mid _ _ c.look_at_slots.ensures.watched.rest c.requires.timer in
+    let timer = rest-timer c.args.board.now.state mid _ _ c.look_at_slots.ensures.looks.watched.rest c.requires.timer in
     let grows = timer-grows mid _ _ _ _ _ timer c.perform_after-reply.ensures.step c.facts.ensures.sound in
-    timed-known _ _ _ _ _ (λ x low. c.look_at_slots.ensures.shadow x low
-    ∙ sym (c.page_words-words.ensures.words x low)) c.publish.ensures
+    timed-known _ _ _ _ _ (λ x low. c.look_at_slots.ensures.looks.shadow x low
+    ∙ sym (c.page_words-words.ensures.words x low)) c.publish.ensures.published
     (words-grow mid _ _ _ c.page_words-words.ensures.words
     (λ i under full. grows.slots _ i (timer-on mid _ _ timer) under full) c.facts.ensures.shape
     c.facts.ensures.ranges (timer-on mid _ _ timer))
@@ -69,10 +69,10 @@ mark_slots-owed-requires-clause-known c =
 pub mark_slots-owed-requires-clause-headers : goal.mark_slots-owed-requires-clause-headers
 mark_slots-owed-requires-clause-headers c =
     let mid : State = c.look_at_slots.new.board.state in
-    let timer = rest-timer c.args.board.now.state mid _ _ c.look_at_slots.ensures.watched.rest c.requires.timer in
+    let timer = rest-timer c.args.board.now.state mid _ _ c.look_at_slots.ensures.looks.watched.rest c.requires.timer in
     let grows = timer-grows mid _ _ _ _ _ timer c.perform_after-reply.ensures.step c.facts.ensures.sound in
-    timed-heads _ _ _ _ _ (λ x low. c.look_at_slots.ensures.shadow x low
-    ∙ sym (c.page_words-words.ensures.words x low)) c.publish.ensures
+    timed-heads _ _ _ _ _ (λ x low. c.look_at_slots.ensures.looks.shadow x low
+    ∙ sym (c.page_words-words.ensures.words x low)) c.publish.ensures.published
     (words-grow mid _ _ _ c.page_words-words.ensures.words
     (λ i under full. grows.slots _ i (timer-on mid _ _ timer) under full) c.facts.ensures.shape
     c.facts.ensures.ranges (timer-on mid _ _ timer))
@@ -87,15 +87,16 @@ mark_slots-owed-requires-clause-capacity c =
       length-append c.look_at_slots.new.notices one.emitted,
       one.bound,
       few,
-      c.look_at_slots.ensures.few,
+      c.look_at_slots.ensures.looks.few,
     )
 
-pub returns : goal.returns
-returns c =
+pub returns-clause-timed : goal.returns-clause-timed
+returns-clause-timed c =
     let s : State = c.args.board.now.state in
     let mid : State = c.look_at_slots.new.board.state in
     let one = c.perform_after-reply.ensures in
-    let timer = rest-timer s mid _ _ c.look_at_slots.ensures.watched.rest c.requires.timer in
+    let timer = rest-timer s mid _ _ c.look_at_slots.ensures.looks.watched.rest c.requires.timer in
     let grows = timer-grows mid _ _ _ _ _ timer one.step c.facts.ensures.sound in
-    part-timed s mid _ _ _ _ _ _ _ _ _ _ _ _ _ _ c.requires.posted c.requires.shown c.look_at_slots.ensures one grows
-    c.publish.ensures c.mark_slots-owed.ensures
+    part-timed s mid _ _ _ _ _ _ _ _ _ _ _ _ _ _ c.requires.shown c.look_at_slots.ensures.looks one
+    grows
+    c.publish.ensures.published c.mark_slots-owed.ensures.marking

@@ -20,5 +20,4 @@ returns c =
       c.end_event.ensures.live,
       (λ on. c.end_event.ensures.probed c.args.vp (eom-there s c.args.vp 0x40000084 event to refl on)),
       idle,
-      refl,
     )

@@ -2,7 +2,8 @@ use Rattle.std.proofs.Common.{◌≡◌, refl, sym, ap, ◌∙◌, subst}
 use Rattle.synic_board.specs.Effects.{Outcome}
 use Rattle.synic_board.specs.Step.{step}
 use Rattle.live_board.specs.Live.{LiveModel}
-use Rattle.live_board.proofs.Shadowed.{same-shadows, quietly-at}
+use Rattle.live_board.proofs.Shadowed.{same-shadows}
+use Rattle.live_board.proofs.Named.{same-at, quietly-named}
 use Rattle.live_board.proofs.live.LiveBoard.perform_apart.Goals as goal
 
 pub invariant_of-self : goal.invariant_of-self
@@ -12,4 +13,6 @@ invariant_of-self c =
     same-shadows _ _ _ (ap (λ (o : Outcome). o.0.own) c.perform.ensures.performs.step ∙ own) c.self.invariant
 
 pub returns : goal.returns
-returns c = quietly-at _ _ _ _ _ _ c.self.view_is (record { pages = refl; performs = c.perform.ensures.performs })
+returns c = same-at (quietly-named _ _ _) c.self.inside.board c.perform.new.self c.self.inside.pages.items _
+    c.self.view_is
+    (record { pages = refl; names = refl; performs = c.perform.ensures.performs })

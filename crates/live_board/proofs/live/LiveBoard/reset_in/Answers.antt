@@ -1,0 +1,54 @@
+use Rattle.std.proofs.Common.{◌<◌, ◌+◌, ◌*◌, ℕ, List, [], refl, sym, ap, ◌∙◌, subst, arith, set, get_or, length, length-set, get_or-set_other, ◌≡◌}
+use Rattle.synic_board.specs.State.{State, processors}
+use Rattle.live_pages.specs.Page.{Page}
+use Rattle.live_pages.specs.declared.access.Access.{Access}
+use Rattle.live_board.specs.Live.{LiveModel}
+use Rattle.live_board.specs.inside.Pages.{logs_of}
+use Rattle.live_board.proofs.Shadowed.{live, reset-shadows, reset-at}
+use Rattle.live_board.proofs.Named.{log-at, logs-set, shadows-set-twice, set-twice-at, reset-named}
+use Rattle.live_board.proofs.live.LiveBoard.reset_in.Goals as goal
+
+pub invariant_of-self : goal.invariant_of-self
+invariant_of-self c =
+    let s : State = c.self.inside.board.state in
+    let p : ℕ = c.args.vp in
+    let on = subst (λ (m : LiveModel). p < processors m.board.state) (sym c.self.view_is) c.requires in
+    let inside : 2 * p + 1 < length s.own = omega (arith, on, c.facts.ensures.shape.overlays) in
+    let items : List Page = c.self.inside.pages.items in
+    shadows-set-twice _ items _ _ c.reset_messages-reply.new.page c.clear-2.new.page
+    (reset-shadows s _ _ p _ _ _ _ _ _ _ _ _ c.index_of.ensures c.index_of-2.ensures inside c.self.invariant
+    c.reset_messages-reply.ensures.part c.clear-2.ensures.cleared)
+
+pub returns : goal.returns
+returns c =
+    let s : State = c.self.inside.board.state in
+    let items : List Page = c.self.inside.pages.items in
+    let pages : List (List Access) = logs_of items in
+    let p : ℕ = c.args.vp in
+    let on = subst (λ (m : LiveModel). p < processors m.board.state) (sym c.self.view_is) c.requires in
+    let size : 2 * p + 1 < length pages = omega (arith, on, c.facts.ensures.shape.overlays, c.self.invariant.count) in
+    let first = log-at items (2 * p) c.index_mut-messages.result.now (omega (arith, size))
+    (c.index_mut-messages.ensures.value
+    ∙ ap (λ n. get_or items n c.index_mut-messages.result.now) c.index_of.ensures) in
+    let items1 : List Page = set items c.index_of.result c.reset_messages-reply.new.page in
+    let flags : c.index_mut-flags.result.now ≡ get_or items1 (2 * p + 1) c.index_mut-flags.result.now =
+    c.index_mut-flags.ensures.value ∙ ap (λ n. get_or items1 n c.index_mut-flags.result.now) c.index_of-2.ensures in
+    let place = ap (λ ps. get_or ps (2 * p + 1) []) (logs-set items c.index_of.result c.reset_messages-reply.new.page)
+    in
+    let second =
+    log-at items1 (2 * p + 1) c.index_mut-flags.result.now
+    (omega (
+      arith,
+      size,
+      ap length (logs-set items c.index_of.result c.reset_messages-reply.new.page),
+      length-set pages c.index_of.result c.reset_messages-reply.new.page.log,
+    )) flags ∙ place in
+    let apart = get_or-set_other pages c.index_of.result (2 * p + 1) c.reset_messages-reply.new.page.log []
+    (λ e. omega (arith, e, c.index_of.ensures)) in
+    set-twice-at (reset-named p _ _) c.self.inside.board c.reset_messages-reply.new.board items c.args.self.now
+    c.index_of.result c.index_of-2.result c.index_mut-messages.result.now c.reset_messages-reply.new.page
+    c.index_mut-flags.result.now c.clear-2.new.page c.self.view_is c.index_mut-messages.ensures.value
+    c.reset_messages-reply.ensures.name c.index_mut-flags.ensures.value c.clear-2.ensures.name
+    (reset-at c.self.inside.board c.reset_messages-reply.new.board pages (live c.self.inside.board pages) p
+    c.index_of.result c.index_of-2.result c.number.result _ _ _ _ _ _ refl c.index_of.ensures c.index_of-2.ensures
+    c.number.ensures.value first (second ∙ apart) c.reset_messages-reply.ensures.part c.clear-2.ensures.cleared)
