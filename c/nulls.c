@@ -108,6 +108,7 @@ CALL(synicboard_local_apic, synicboard_lapic, board == NULL, CONST_BOARD(board),
 CALL(synicboard_due, synicboard_earliest, board == NULL, CONST_BOARD(board), (board), const synicboard *board)
 CALL(synicboard_due, synicboard_earliest_after, board == NULL, CONST_BOARD(board), (board, moment),
      const synicboard *board, uint64_t moment)
+CALL(synicboard_next_tick, synicboard_alarm, board == NULL, CONST_BOARD(board), (board), const synicboard *board)
 CALL(uint64_t, synicboard_update, board == NULL || view == NULL, CONST_BOARD(board) VIEW(view),
      (board, view), const synicboard *board, synicboard_view *view)
 CALL(synicboard_changes, synicboard_update_wide, board == NULL || view == NULL, CONST_BOARD(board) WIDE_VIEW(view),
@@ -131,9 +132,6 @@ CALL(synicboard_live_reply, synicboard_act_live, board == NULL || event == NULL,
 EVENT_CALL(synicboard_observe, (board, vp), synicboard *board, uint8_t vp)
 EVENT_CALL(synicboard_observe_all, (board, vp), synicboard *board, uint8_t vp)
 LOOK(bool, synicboard_is_live, (board), const synicboard *board)
-CALL(size_t, synicboard_late_notices, board == NULL || room == NULL,
-     CONST_BOARD(board) ROOM(room, length, synicboard_notice), (board, room, length),
-     const synicboard *board, synicboard_notice *room, size_t length)
 
 /* ---- The reference TSC page ----
  *

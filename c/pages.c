@@ -4,7 +4,7 @@
 #include <stdlib.h>
 #include "nulls.h"
 
-enum { PAGE = 4096, MOST = 16 };
+enum { PAGE = 4096, MOST = 128 };
 
 /* The blocks of a page's size that a thread has allocated, the last ones. */
 struct blocks { uint8_t *last[MOST]; unsigned count; };

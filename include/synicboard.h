@@ -27,7 +27,9 @@
  *     a count above 0.
  *   - Null bytes with a length above 0 count as too many bytes. A null text with a length above 0
  *     yields SYNICBOARD_NO_TEXT.
- *   - A null output buffer counts as one of length 0. If `page` is null, no address is stored.
+ *   - A null output buffer counts as one of length 0. If `page` is null, no address is stored. What the call
+ *     does is done all the same: synicboard_tick_due moves the clock, and the vectors that synicboard_forward
+ *     takes off the board are lost.
  * Every other pointer must point to as many valid objects as the call states; with a count of 0 it may
  * point anywhere.
  */
@@ -228,7 +230,9 @@ synicboard_reply synicboard_store(synicboard *board, uint64_t address, const uin
 synicboard_reply synicboard_load(synicboard *board, uint64_t address, uint8_t length);
 
 /* Moves the clock to `moment`, in units of 100 ns. If that is later than the present time, tries the timers
- * that are due by then: each expires, unless its message cannot be sent yet.
+ * that are due by then, by their deadlines, until 32 have expired: each that is tried expires, unless its
+ * message cannot be sent yet. On a board of more than eight processors some may be left: the next tick to a
+ * later time tries them, again until 32 have expired.
  * Replies: DONE, REFUSED (CLOCK_BACK). */
 synicboard_reply synicboard_tick(synicboard *board, uint64_t moment);
 
@@ -240,7 +244,8 @@ synicboard_reply synicboard_take(synicboard *board, uint8_t vp);
  * Replies: DONE, REFUSED (ALREADY_SUSPENDED). */
 synicboard_reply synicboard_suspend(synicboard *board, uint8_t vp);
 
-/* Resumes a suspended processor. Its timers that became due are tried at the next later tick.
+/* Resumes a suspended processor. Its timers that became due are tried as others by the next tick to a later
+ * time.
  * Replies: DONE, REFUSED (NOT_SUSPENDED). */
 synicboard_reply synicboard_resume(synicboard *board, uint8_t vp);
 
@@ -308,7 +313,7 @@ enum {
     SYNICBOARD_NOTICE_PLACED = 2,       /* ticket, vp, sint */
     SYNICBOARD_NOTICE_PENDING = 3,      /* vp, sint */
     SYNICBOARD_NOTICE_REQUESTED = 4,    /* vp, vector */
-    SYNICBOARD_NOTICE_FLAG = 5,         /* vp, sint, flag */
+    SYNICBOARD_NOTICE_FLAG = 5,         /* vp, sint, flag (the base of the port plus the number signalled) */
     SYNICBOARD_NOTICE_CONSUMED = 6,     /* ticket, vp, sint */
     SYNICBOARD_NOTICE_WITHDRAWN = 7,    /* ticket, vp, sint */
     SYNICBOARD_NOTICE_EXPIRED = 8,      /* vp, timer, due */
@@ -436,8 +441,10 @@ synicboard_local_apic synicboard_lapic(const synicboard *board, uint8_t vp);
 
 /* Whether no EOI is required of a processor (TLFS, "EOI Assist"): a vector is in service, and none is requested. The host
  * may then set "No EOI required" in the processor's assist page when it injects the vector. If the guest clears the bit, it does not
- * write EOI: the host writes it to the board when it looks at the bit, which it does before it next asks what is
- * next. If another vector is next then and the guest has not cleared the bit, the host clears it. */
+ * write EOI: the host, if it has set the bit and finds it clear, writes it to the board when it looks at the bit,
+ * which it does before it next asks what is next. If another vector is requested then, next or not, and the guest has
+ * not cleared the bit, the host clears it. A vector that waits for the one in service is not next: ask again after an
+ * event that has a notice REQUESTED for the processor. A reset and a save drop the bit. */
 bool synicboard_no_eoi_required(const synicboard *board, uint8_t vp);
 
 /* What a processor forwards to a local APIC outside the board. Bit i of word k is vector 64 * k + i. */
@@ -449,11 +456,16 @@ typedef struct synicboard_forwarded {
 /* For a host whose local APICs are not the board's (KVM's, or the processor's own). Forwards the vectors that are
  * requested at a processor: the board's APIC takes each and ends it at once, so that none is requested or in
  * service there any more, and the next request of each has its notice REQUESTED. The host requests them in its own
- * APIC. Call it after each event that has this notice for the processor, and after synicboard_resume, since a
- * suspended processor forwards nothing. Such a host passes no EOI, no TPR, and no interrupt of anything else to the
- * board. Stores what is forwarded in `*forwarded`: all 0 if there is nothing, no such processor or no board.
+ * APIC: the board has them no longer, so what that APIC drops, while it is disabled, is lost. Call it after each event that has this notice for the processor, after
+ * synicboard_resume, since a suspended processor forwards nothing, and once for each processor after
+ * synicboard_restore. Such a host passes no EOI, no TPR, and no interrupt of anything else to the board. An image of a
+ * board that was used otherwise may have a TPR, or vectors in service: they hold back the vectors of their class and
+ * below, and have no notice when they are requested again. Write 0 to TPR and EOI for each vector in service then
+ * (synicboard_lapic). Stores what is forwarded in `*forwarded`: all 0 if there is nothing, no such processor or no board.
+ * Whether a vector is auto-EOI is read when it is forwarded.
  *
- * Serves a board with live pages, too, and accesses none. Afterwards there are no notices.
+ * Serves a board with live pages, too, and accesses none. Afterwards there are no notices; if it is refused, those of
+ * the event before are there still.
  * Replies: DONE, REFUSED. */
 synicboard_reply synicboard_forward(synicboard *board, uint8_t vp, synicboard_forwarded *forwarded);
 
@@ -512,17 +524,28 @@ typedef struct synicboard_due {
     uint64_t high;
 } synicboard_due;
 
-/* The timer with the earliest deadline, for a host to arm its own timer with. */
+/* The timer with the earliest deadline, even if it is late or not ready to expire. */
 synicboard_due synicboard_earliest(const synicboard *board);
 
-/* The earliest deadline that is later than `moment`. A timer that is due and not ready to expire, such as one
- * without a free buffer, stays the earliest of all and hides the others; it is tried again at the next tick. So
- * a host arms its timer for the earliest deadline after the present, and ticks again after a guest's events. */
+/* The earliest deadline that is later than `moment`. A timer that is late by more than a period has its next
+ * deadline before the present, and is not among them: a host arms its timer for synicboard_alarm. */
 synicboard_due synicboard_earliest_after(const synicboard *board, uint64_t moment);
 
-/* synicboard_tick, and the earliest timer afterwards in `*due`: arm the host's timer for it. At most 32 timers
- * expire in one tick, the earliest first. If more were due, as only a board of more than eight processors can
- * have, the next of them is in `*due`, and expires in a tick at a later moment. */
+/* When a host must tick next. */
+typedef struct synicboard_next_tick {
+    bool is_set;                        /* no tick makes a timer expire if not */
+    uint64_t moment;
+} synicboard_next_tick;
+
+/* The least time after the present at which a tick makes a timer expire or skip periods: a host arms its timer for
+ * it. A timer that is late, such as one of more than 32 that were due, has it at the next moment; one that is not
+ * ready to expire, such as one without a free buffer, has none until an event makes it ready. So a host asks again
+ * after each event. */
+synicboard_next_tick synicboard_alarm(const synicboard *board);
+
+/* synicboard_tick, and the earliest timer afterwards in `*due`. At most 32 timers expire in one tick, the earliest
+ * first. If more were due, as only a board of more than eight processors can have, the next of them is in `*due`,
+ * and expires in a tick at a later moment. */
 synicboard_reply synicboard_tick_due(synicboard *board, uint64_t moment, synicboard_due *due);
 
 /* What a run loop acts on: the next vector of each processor, 0 if it has none, and the earliest
@@ -537,8 +560,9 @@ typedef struct synicboard_view {
 #define SYNICBOARD_EARLIEST_CHANGED 0x100
 
 /* Updates a view, and returns what differs from before: bit p iff the next vector of processor p does
- * (kick its thread), SYNICBOARD_EARLIEST_CHANGED iff the earliest deadline does (arm the host's timer),
- * and no other bit. One call after an event, or after several, in place of one for each processor. */
+ * (kick its thread), SYNICBOARD_EARLIEST_CHANGED iff the earliest deadline does, and no other bit. It compares
+ * values: a vector that is taken and requested again between two calls differs in nothing. So call it after each
+ * event, before the processor's thread may enter the guest. The host arms its timer for synicboard_alarm. */
 uint64_t synicboard_update(const synicboard *board, synicboard_view *view);
 
 /* The same for a board of up to 64 processors. */
@@ -548,7 +572,7 @@ typedef struct synicboard_wide_view {
 } synicboard_wide_view;
 
 /* What differs in a wide view: bit p of `next` iff the next vector of processor p does (kick its thread),
- * `earliest` iff the earliest deadline does (arm the host's timer). */
+ * `earliest` iff the earliest deadline does. Values are compared, as by synicboard_update. */
 typedef struct synicboard_changes {
     uint64_t next;
     bool earliest;
@@ -602,8 +626,8 @@ bool synicboard_guest_page(const synicboard *board, uint64_t number, const uint8
  * bytes at a multiple of 4096, and stays valid until the board is closed. Allocates all memory that events need.
  *
  * Returns SYNICBOARD_OK; SYNICBOARD_NO_HANDLE if `pages` is null; SYNICBOARD_IS_CLOSED if the board is closed;
- * SYNICBOARD_IS_LIVE if it has live pages; SYNICBOARD_BAD_SIZE if it has more than eight processors; or
- * SYNICBOARD_NO_MEMORY if an allocation fails. Unless it returns SYNICBOARD_OK, nothing changes. */
+ * SYNICBOARD_IS_LIVE if it has live pages; or SYNICBOARD_NO_MEMORY if an allocation fails. Unless it returns
+ * SYNICBOARD_OK, nothing changes. */
 uint8_t synicboard_make_live(synicboard *board, uint8_t **pages);
 
 /* Whether the board has live pages. */
@@ -612,29 +636,26 @@ bool synicboard_is_live(const synicboard *board);
 /* The reply to an event on a board that may have live pages. */
 typedef struct synicboard_live_reply {
     synicboard_reply reply;
-    uint64_t owed;                      /* the processors that are owed an EOM: bit p for processor p */
-    uint16_t late;                      /* how many notices synicboard_late_notices has */
+    uint64_t eoms;                      /* the processors of which the board performed an EOM: bit p for processor p */
 } synicboard_live_reply;
 
-/* No event, and no synicboard_observe, emits more notices on a board with live pages, apart from the late ones. */
-#define SYNICBOARD_MOST_LIVE_NOTICES 320
+/* No event, and no synicboard_observe, emits more notices on a board with live pages. Only a tick of a board of many
+ * processors comes near it: one copies them in parts, or into static memory. */
+#define SYNICBOARD_MOST_LIVE_NOTICES 22720
 
 /* Performs an event that is given as a struct, on a board with live pages or without. A store or a load at a page
  * where the guest sees a live page is refused as SYNICBOARD_ELSEWHERE: the caller performs it in the live page.
  *
  * An event that is refused changes nothing but what the guest's stores have changed, which were found first.
  *
- * If a bit of `owed` is set, a message waits for its processor whose slot the guest has emptied meanwhile, perhaps
- * without a look at MessagePending: write 0 to SYNICBOARD_MSR_EOM of that processor next. Only SYNICBOARD_TICK
- * and SYNICBOARD_WRITE of a timer's register set bits.
+ * If a tick or a write of a timer's register leaves a message waiting whose slot the guest has emptied meanwhile,
+ * perhaps without a look at MessagePending, the board writes EOM of that processor itself in the same call, which
+ * places the message. `eoms` has these processors, in the order of their numbers: a host that logs events appends
+ * a write of 0 to SYNICBOARD_MSR_EOM for each, with the reply SYNICBOARD_DONE.
  *
- * The notices, those of the guest's stores first, are those that synicboard_notices returns. Only a
- * SYNICBOARD_TICK may have late notices, of stores that were found after it. */
+ * The notices are those of the guest's stores that were found before the event, of the event, of the stores that were
+ * found after it, and of the EOMs, in this order: synicboard_notices returns them. */
 synicboard_live_reply synicboard_act_live(synicboard *board, const synicboard_event *event);
-
-/* Copies the late notices of the last event, as many as fit into `length` elements, and returns how many there
- * are, at most 128. */
-size_t synicboard_late_notices(const synicboard *board, synicboard_notice *room, size_t length);
 
 /* Looks at the message slots of a processor, if the guest sees its message page, so that the notices are those of
  * the messages that it has consumed. The fault is SYNICBOARD_NOT_LIVE if the board has no live pages.
@@ -642,9 +663,9 @@ size_t synicboard_late_notices(const synicboard *board, synicboard_notice *room,
 synicboard_reply synicboard_observe(synicboard *board, uint8_t vp);
 
 /* Looks at all words of both live pages of a processor that the guest sees: the board's own pages have what the guest
- * has stored. Before synicboard_save, for each processor, while the guest does not run; and before a write of SIMP or
- * SIEFP, since the board learns what is in a page that the guest sees no longer only when it sees it again. Notices
- * and fault are those of synicboard_observe.
+ * has stored. Before synicboard_save, for each processor, while the guest does not run. A write of SIMP or SIEFP does
+ * the same first, for the pages that it may hide. Notices and fault are those of synicboard_observe; a call that is
+ * refused keeps the notices of the event before.
  * Replies: DONE, REFUSED. */
 synicboard_reply synicboard_observe_all(synicboard *board, uint8_t vp);
 
@@ -667,7 +688,8 @@ synicboard_tsc_page synicboard_tsc_page_at(uint64_t hz, uint64_t tsc, uint64_t t
  * `time` when the TSC is `tsc`. */
 synicboard_tsc_page synicboard_tsc_page_moved(synicboard_tsc_page page, uint64_t tsc, uint64_t time);
 
-/* The reference time of a page when the TSC is `tsc`. */
+/* The reference time of a page when the TSC is `tsc`. It wraps: for a TSC before the one at which the time was 0
+ * it is near 2^64. Do not pass such a time to synicboard_tick, which would refuse all others after it. */
 uint64_t synicboard_tsc_time(synicboard_tsc_page page, uint64_t tsc);
 
 /* ---- Texts ----
@@ -691,8 +713,9 @@ synicboard_end synicboard_replay(const uint8_t *script, size_t script_length, ui
 synicboard_end synicboard_save(const synicboard *board, uint8_t *room, size_t length);
 
 /* Restores a board from an image, in a closed handle. Each line is checked against those before it, so an
- * image that was cut, changed or forged gives SYNICBOARD_WRONG_LINE, or a board on which everything holds
- * that holds on an opened one. With SYNICBOARD_NO_HANDLE, SYNICBOARD_NO_TEXT, SYNICBOARD_IS_OPEN,
+ * image that was cut, changed or forged gives SYNICBOARD_WRONG_LINE, or a board with the invariants of every
+ * board, on which each event does what docs/MACHINE.md says; no events need lead to its state (docs/FORMATS.md,
+ * "Image", has examples). With SYNICBOARD_NO_HANDLE, SYNICBOARD_NO_TEXT, SYNICBOARD_IS_OPEN,
  * SYNICBOARD_WRONG_LINE, SYNICBOARD_NO_MEMORY or SYNICBOARD_TOO_LONG the handle is unchanged. `length` is
  * always 0. Allocates all memory that the events of this board need. */
 synicboard_end synicboard_restore(synicboard *board, const uint8_t *image, size_t length);

@@ -58,10 +58,10 @@ static void handle_notice(const synicboard_notice *notice)
     }
 }
 
-static void handle_notices(size_t (*copy)(const synicboard *, synicboard_notice *, size_t))
+static void handle_notices(void)
 {
     static synicboard_notice notices[SYNICBOARD_MOST_LIVE_NOTICES];
-    size_t count = copy(board, notices, SYNICBOARD_MOST_LIVE_NOTICES);
+    size_t count = synicboard_notices(board, notices, SYNICBOARD_MOST_LIVE_NOTICES);
     notices_seen += count;
     for (size_t at = 0; at < count; at++)
         handle_notice(&notices[at]);
@@ -73,28 +73,33 @@ static synicboard_reply answer(const synicboard_event *event, synicboard_reply r
     events++;
     trace_entry(event, &reply);
     if (reply.notices != 0)
-        handle_notices(synicboard_notices);
+        handle_notices();
     return reply;
 }
 
-/* A processor that is owed an EOM has emptied a slot, and may not have seen that a message waits for it. */
+/* The EOMs that the board performed after an event are events of the trace. */
+static void record_eoms(uint64_t eoms)
+{
+    static const synicboard_reply done = { .kind = SYNICBOARD_DONE };
+    for (uint8_t vp = 0; eoms >> vp != 0; vp++)
+        if (eoms >> vp & 1)
+            trace_entry(&(synicboard_event){ .kind = SYNICBOARD_WRITE, .vp = vp, .msr = SYNICBOARD_MSR_EOM }, &done);
+}
+
 static synicboard_reply perform(const synicboard_event *event)
 {
     synicboard_live_reply live = synicboard_act_live(board, event);
     answer(event, live.reply);
-    if (live.late != 0)
-        handle_notices(synicboard_late_notices);
+    if (live.eoms != 0)
+        record_eoms(live.eoms);
     irqchip_collect();
-    for (uint8_t vp = 0; live.owed >> vp != 0; vp++)
-        if (live.owed >> vp & 1)
-            perform(&(synicboard_event){ .kind = SYNICBOARD_WRITE, .vp = vp, .msr = SYNICBOARD_MSR_EOM });
     return live.reply;
 }
 
 static void observe(uint8_t vp)
 {
     if (!vm.pages_trap && synicboard_observe_all(board, vp).notices != 0)
-        handle_notices(synicboard_notices);
+        handle_notices();
 }
 
 /* Before the board is saved, while no processor is in the guest. */
@@ -114,16 +119,16 @@ static void tick(uint64_t at_least)
     perform(&(synicboard_event){ .kind = SYNICBOARD_TICK, .moment = now > at_least ? now : at_least });
 }
 
-/* A timer that is due and not ready stays the earliest, and gets ready by an event of a guest or a device,
- * after which the board is advanced again. A tick to the board's own time would try nothing, hence the next
- * later one. */
+/* Ticks if a timer can expire. One that is late by several periods has its next alarm at once, so the host's timer
+ * goes off again. One that is not ready has none until an event makes it ready, after which the board is advanced. */
 void board_advance(void)
 {
-    synicboard_due due = synicboard_earliest(board);
-    if (due.is_due && due.high == 0 && due.low <= clock_now())
-        tick(synicboard_moment(board) + 1);
-    due = synicboard_earliest_after(board, synicboard_moment(board));
-    clock_want(due.is_due && due.high == 0 ? due.low : UINT64_MAX);
+    synicboard_next_tick next = synicboard_alarm(board);
+    if (next.is_set && next.moment <= clock_now()) {
+        tick(next.moment);
+        next = synicboard_alarm(board);
+    }
+    clock_want(next.is_set ? next.moment : UINT64_MAX);
 }
 
 /* ---- What a guest does ---- */

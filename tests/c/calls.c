@@ -268,6 +268,40 @@ static void test_earliest_after(void)
     synicboard_close(&board);
 }
 
+static void check_alarm(const synicboard *board, uint64_t moment)
+{
+    synicboard_next_tick next = synicboard_alarm(board);
+    CHECK(next.is_set);
+    CHECK_NUMBER(next.moment, moment);
+}
+
+/* A direct timer of period 100 is served at 650: it signals once in each tick, and its next deadline is before the
+ * present until it has caught up. A timer that posts to a disabled SynIC is not ready, and has no alarm. */
+static void test_alarm(void)
+{
+    synicboard board = SYNICBOARD_CLOSED;
+    CHECK(!synicboard_alarm(&board).is_set);
+    synicboard_open(&board, 1, 1, 0);
+    CHECK(!synicboard_alarm(&board).is_set);
+    synicboard_write(&board, 0, STIMER0_COUNT + 2, 5);
+    synicboard_write(&board, 0, STIMER0_CONFIG + 2, 0x20001);
+    CHECK(!synicboard_alarm(&board).is_set);
+    synicboard_write(&board, 0, STIMER0_COUNT, 100);
+    synicboard_write(&board, 0, STIMER0_CONFIG, 0x1503);
+    check_alarm(&board, 100);
+    CHECK_REPLY(synicboard_tick(&board, 650), SYNICBOARD_DONE);
+    CHECK(!synicboard_earliest_after(&board, 650).is_due);
+    for (uint64_t moment = 651; moment < 656; moment++) {
+        check_alarm(&board, moment);
+        CHECK_REPLY(synicboard_tick(&board, moment), SYNICBOARD_DONE);
+        CHECK(synicboard_notices(&board, NULL, 0) > 0);
+    }
+    check_alarm(&board, 700);
+    CHECK_REPLY(synicboard_suspend(&board, 0), SYNICBOARD_DONE);
+    CHECK(!synicboard_alarm(&board).is_set);
+    synicboard_close(&board);
+}
+
 /* The values are those of integers without a limit: (tsc * (10000000 << 64 / hz) >> 64) + offset, modulo 2^64. */
 static void test_tsc_page(void)
 {
@@ -744,6 +778,7 @@ static const struct test tests[] = {
     { "timers and slots", test_timers_and_slots },
     { "a tick with the earliest deadline", test_tick_due },
     { "the earliest deadline after a time", test_earliest_after },
+    { "the alarm", test_alarm },
     { "the reference TSC page", test_tsc_page },
         { "reference TSC page", test_tsc_page },
     { "a closed handle", test_closed_handle },

@@ -12,7 +12,7 @@
 enum { MESSAGES = 2, FLAGS = 3, TYPE_AT = SOURCE * SLOT, FLAGS_AT = TYPE_AT + 5, PENDING = 1 };
 
 static struct text before, after;
-static uint8_t *pages[2 * PROCESSORS];
+static uint8_t *pages[2 * MOST_PROCESSORS];
 
 /* The board of open_busy, with live pages: a message in the slot of SOURCE of processor 1, and its vector requested. */
 static void open_live(synicboard *board)
@@ -24,8 +24,7 @@ static void open_live(synicboard *board)
 static synicboard_reply act(synicboard *board, synicboard_event event)
 {
     synicboard_live_reply live = synicboard_act_live(board, &event);
-    CHECK_NUMBER(live.owed, 0);
-    CHECK_NUMBER(live.late, 0);
+    CHECK_NUMBER(live.eoms, 0);
     return live.reply;
 }
 
@@ -42,7 +41,7 @@ static synicboard_reply end_message(synicboard *board)
 /* The notices of the last event are of these kinds. */
 static void check_notices(const synicboard *board, const uint8_t *kinds, size_t count, int line)
 {
-    synicboard_notice notices[SYNICBOARD_MOST_LIVE_NOTICES];
+    static synicboard_notice notices[SYNICBOARD_MOST_LIVE_NOTICES];
     check_number(synicboard_notices(board, notices, SYNICBOARD_MOST_LIVE_NOTICES), count, "notices", line);
     for (size_t at = 0; at < count; at++)
         check_number(notices[at].kind, kinds[at], "the kind of a notice", line);
@@ -72,13 +71,11 @@ static void test_outcomes(void)
     CHECK_FAULT(synicboard_act_live(NULL, NULL).reply, SYNICBOARD_IS_CLOSED);
     CHECK_FAULT(synicboard_observe(NULL, 0), SYNICBOARD_IS_CLOSED);
     CHECK_FAULT(synicboard_observe_all(NULL, 0), SYNICBOARD_IS_CLOSED);
-    CHECK_NUMBER(synicboard_late_notices(NULL, NULL, 1), 0);
     CHECK_NUMBER(synicboard_open(&board, 2, 4, 0), SYNICBOARD_OK);
     CHECK_NUMBER(synicboard_make_live(&board, NULL), SYNICBOARD_NO_HANDLE);
     CHECK(!synicboard_is_live(&board));
     CHECK_FAULT(synicboard_observe(&board, 0), SYNICBOARD_NOT_LIVE);
     CHECK_FAULT(synicboard_observe_all(&board, 0), SYNICBOARD_NOT_LIVE);
-    CHECK_NUMBER(synicboard_late_notices(&board, NULL, 0), 0);
     CHECK_NUMBER(synicboard_make_live(&board, pages), SYNICBOARD_OK);
     CHECK(synicboard_is_live(&board));
     CHECK_NUMBER(synicboard_make_live(&board, pages), SYNICBOARD_IS_LIVE);
@@ -132,21 +129,58 @@ static void test_refused_memory(void)
 static void test_greatest_board(void)
 {
     synicboard board = SYNICBOARD_CLOSED;
-    CHECK_NUMBER(synicboard_open_sparse(&board, PROCESSORS, 0), SYNICBOARD_OK);
+    CHECK_NUMBER(synicboard_open_sparse(&board, MOST_PROCESSORS, 0), SYNICBOARD_OK);
     CHECK_NUMBER(synicboard_make_live(&board, pages), SYNICBOARD_OK);
-    for (uint8_t vp = 0; vp < PROCESSORS; vp++) {
+    for (uint8_t vp = 0; vp < MOST_PROCESSORS; vp++) {
         act(&board, (synicboard_event){ .kind = SYNICBOARD_WRITE, .vp = vp, .msr = SCONTROL, .value = 1 });
-        act(&board, (synicboard_event){ .kind = SYNICBOARD_WRITE, .vp = vp, .msr = SIMP, .value = (16 + vp) * PAGE + 1 });
-        act(&board, (synicboard_event){ .kind = SYNICBOARD_WRITE, .vp = vp, .msr = SIEFP, .value = (32 + vp) * PAGE + 1 });
+        act(&board, (synicboard_event){ .kind = SYNICBOARD_WRITE, .vp = vp, .msr = SIMP, .value = (64 + vp) * PAGE + 1 });
+        act(&board, (synicboard_event){ .kind = SYNICBOARD_WRITE, .vp = vp, .msr = SIEFP, .value = (128 + vp) * PAGE + 1 });
         act(&board, (synicboard_event){ .kind = SYNICBOARD_OPEN_MESSAGE_PORT, .port = vp, .vp = vp, .sint = 15, .buffers = 1 });
-        act(&board, (synicboard_event){ .kind = SYNICBOARD_OPEN_EVENT_PORT, .port = 8 + vp, .vp = vp, .sint = 15, .count = 2048 });
+        act(&board, (synicboard_event){ .kind = SYNICBOARD_OPEN_EVENT_PORT, .port = 64 + vp, .vp = vp, .sint = 15, .count = 2048 });
         act(&board, (synicboard_event){ .kind = SYNICBOARD_POST, .port = vp, .message_type = 100u + vp });
-        act(&board, (synicboard_event){ .kind = SYNICBOARD_SIGNAL, .port = 8 + vp, .flag = 2047 });
+        act(&board, (synicboard_event){ .kind = SYNICBOARD_SIGNAL, .port = 64 + vp, .flag = 2047 });
     }
-    for (unsigned vp = 0; vp < PROCESSORS; vp++) {
+    for (unsigned vp = 0; vp < MOST_PROCESSORS; vp++) {
         CHECK_NUMBER(pages[2 * vp][15 * SLOT], 100 + vp);
         CHECK_NUMBER(pages[2 * vp + 1][PAGE - 1], 0x80);
     }
+    synicboard_close(&board);
+}
+
+/* Each of 64 processors has four messages in slots, which its guest empties, and a timer that is due: a tick finds
+ * what was consumed, then 32 timers expire, and their notices follow. */
+static void test_greatest_tick(void)
+{
+    enum { SLOTS = 4, CONSUMED = SLOTS * MOST_PROCESSORS, EXPIRED = 3 * 32, TIMER_SINT = 5 };
+    static synicboard_notice notices[SYNICBOARD_MOST_LIVE_NOTICES];
+    synicboard board = SYNICBOARD_CLOSED;
+    CHECK_NUMBER(synicboard_open_sparse(&board, MOST_PROCESSORS, 0), SYNICBOARD_OK);
+    CHECK_NUMBER(synicboard_make_live(&board, pages), SYNICBOARD_OK);
+    for (uint8_t vp = 0; vp < MOST_PROCESSORS; vp++) {
+        act(&board, (synicboard_event){ .kind = SYNICBOARD_WRITE, .vp = vp, .msr = SCONTROL, .value = 1 });
+        act(&board, (synicboard_event){ .kind = SYNICBOARD_WRITE, .vp = vp, .msr = SIMP, .value = (64 + vp) * PAGE + 1 });
+        for (uint8_t sint = 0; sint < SLOTS; sint++) {
+            uint8_t port = SLOTS * vp + sint;
+            act(&board, (synicboard_event){ .kind = SYNICBOARD_OPEN_MESSAGE_PORT, .port = port, .vp = vp, .sint = sint, .buffers = 1 });
+            act(&board, (synicboard_event){ .kind = SYNICBOARD_POST, .port = port, .message_type = 1 });
+        }
+        act(&board, (synicboard_event){ .kind = SYNICBOARD_WRITE, .vp = vp, .msr = STIMER0_COUNT, .value = 10 });
+        act(&board, (synicboard_event){ .kind = SYNICBOARD_WRITE, .vp = vp, .msr = STIMER0_CONFIG, .value = TIMER_SINT << 16 | 1 });
+        for (unsigned sint = 0; sint < SLOTS; sint++)
+            memset(pages[2 * vp] + sint * SLOT, 0, 4);
+    }
+    for (uint64_t moment = 20; moment < 22; moment++) {
+        CHECK_REPLY(act(&board, (synicboard_event){ .kind = SYNICBOARD_TICK, .moment = moment }), SYNICBOARD_DONE);
+        size_t count = synicboard_notices(&board, notices, SYNICBOARD_MOST_LIVE_NOTICES), found = 0;
+        while (found < count && notices[found].kind == SYNICBOARD_NOTICE_CONSUMED)
+            found++;
+        CHECK_NUMBER(found, moment == 20 ? CONSUMED : 0);
+        CHECK_NUMBER(count - found, EXPIRED);
+        CHECK(notices[found].kind == SYNICBOARD_NOTICE_EXPIRED && notices[count - 1].kind == SYNICBOARD_NOTICE_PLACED);
+        CHECK_NUMBER(notices[count - 1].vp, moment == 20 ? 31 : 63);
+    }
+    for (unsigned vp = 0; vp < MOST_PROCESSORS; vp++)
+        CHECK_NUMBER(pages[2 * vp][TIMER_SINT * SLOT], 0x10);
     synicboard_close(&board);
 }
 
@@ -196,7 +230,7 @@ static void test_plain_board(void)
         synicboard_event event = random_event(&one, &random);
         synicboard_live_reply live = synicboard_act_live(&one, &event);
         synicboard_reply reply = synicboard_perform(&other, &event);
-        CHECK(live.owed == 0 && live.late == 0);
+        CHECK_NUMBER(live.eoms, 0);
         CHECK(live.reply.kind == reply.kind && live.reply.refusal == reply.refusal && live.reply.notices == reply.notices);
     }
     describe(&one, &before);
@@ -239,6 +273,46 @@ static void test_emptied_slot(void)
     CHECK_REPLY(synicboard_observe(&board, 1), SYNICBOARD_DONE);
     CHECK_NOTICES(&board, SYNICBOARD_NOTICE_CONSUMED);
     CHECK_NUMBER(synicboard_observe(&board, 1).notices, 0);
+    synicboard_close(&board);
+}
+
+/* What the guest leaves after its payload, where no look finds it, is not in the next message. */
+static void test_whole_slot(void)
+{
+    uint8_t expected[SLOT] = { 6, 0, 0, 0, 1 };
+    synicboard board = SYNICBOARD_CLOSED;
+    open_live(&board);
+    uint8_t *slot = pages[MESSAGES] + TYPE_AT;
+    memset(slot, 0xff, SLOT);
+    memset(slot, 0, 8);
+    CHECK_REPLY(post(&board, 6), SYNICBOARD_ACCEPTED);
+    CHECK_NOTICES(&board, SYNICBOARD_NOTICE_CONSUMED, SYNICBOARD_NOTICE_ACCEPTED, SYNICBOARD_NOTICE_PLACED);
+    expected[8] = MESSAGE_PORT;
+    expected[16] = 7;
+    CHECK(memcmp(slot, expected, SLOT) == 0);
+    synicboard_close(&board);
+}
+
+/* The guest empties the slot, and its page is hidden by an overlay before it in the order: the write that hides the
+ * page finds that, and the message never comes back. */
+static void test_hidden_page(void)
+{
+    synicboard_event cover = { .kind = SYNICBOARD_WRITE, .vp = 0, .msr = SIMP, .value = 2 * PAGE + 1 };
+    synicboard board = SYNICBOARD_CLOSED;
+    open_live(&board);
+    uint8_t *slot = pages[MESSAGES] + TYPE_AT;
+    memset(slot, 0, 4);
+    pages[MESSAGES][PAGE - 1] = 0xa5;
+    CHECK_REPLY(act(&board, cover), SYNICBOARD_DONE);
+    CHECK_NOTICES(&board, SYNICBOARD_NOTICE_CONSUMED);
+    CHECK(is_same_page(&board, 1));
+    CHECK_REPLY(post(&board, 6), SYNICBOARD_ACCEPTED);
+    CHECK_NOTICES(&board, SYNICBOARD_NOTICE_ACCEPTED, SYNICBOARD_NOTICE_PLACED);
+    cover.value = 0;
+    CHECK_REPLY(act(&board, cover), SYNICBOARD_DONE);
+    CHECK(memcmp(slot, (const uint8_t[]){ 6, 0, 0, 0, 1, 0 }, 6) == 0 && slot[16] == 7);
+    CHECK_NUMBER(synicboard_observe(&board, 1).notices, 0);
+    CHECK_NUMBER(pages[MESSAGES][PAGE - 1], 0xa5);
     synicboard_close(&board);
 }
 
@@ -306,7 +380,7 @@ static void test_hostile_guest(void)
         synicboard_event event = random_event(&board, &random);
         synicboard_live_reply live = synicboard_act_live(&board, &event);
         CHECK(live.reply.kind != SYNICBOARD_NOT_PERFORMED || live.reply.fault == SYNICBOARD_NO_EVENT);
-        CHECK((live.owed & ~3u) == 0 && live.late <= 128);
+        CHECK((live.eoms & ~3u) == 0);
     }
     CHECK_REPLY(synicboard_observe_all(&board, 0), SYNICBOARD_DONE);
     CHECK_REPLY(synicboard_observe_all(&board, 1), SYNICBOARD_DONE);
@@ -350,10 +424,13 @@ int main(void)
         { "queries", test_queries },
         { "refused memory", test_refused_memory },
         { "the greatest board", test_greatest_board },
+        { "the greatest tick", test_greatest_tick },
         { "other calls", test_other_calls },
         { "a board without live pages", test_plain_board },
         { "a message", test_message },
         { "an emptied slot", test_emptied_slot },
+        { "a whole slot", test_whole_slot },
+        { "a hidden page", test_hidden_page },
         { "flags", test_flags },
         { "accesses", test_accesses },
         { "a timer", test_timer },

@@ -131,6 +131,8 @@ static void test_null_board_looks(void)
     CHECK(!due.is_due && due.vp == 0 && due.timer == 0 && due.low == 0 && due.high == 0);
     due = synicboard_earliest_after(NULL, 0);
     CHECK(!due.is_due && due.vp == 0 && due.timer == 0 && due.low == 0 && due.high == 0);
+    synicboard_next_tick next = synicboard_alarm(NULL);
+    CHECK(!next.is_set && next.moment == 0);
     CHECK_NUMBER(synicboard_update(NULL, &view), 1);
     CHECK(view.next[0] == 0);
     CHECK_NUMBER(synicboard_update_owners(NULL, &owners), 1);

@@ -90,8 +90,8 @@ static synicboard_reply act(synicboard_event event)
 {
     synicboard *board = synicboard_hold(&shared);
     synicboard_live_reply live = synicboard_act_live(board, &event);
-    if (live.owed != 0 || live.late != 0 || live.reply.kind == SYNICBOARD_NOT_PERFORMED) {
-        fprintf(stderr, "running: event %u: owed %lx, late %u, fault %u\n", event.kind, live.owed, live.late, live.reply.fault);
+    if (live.eoms != 0 || live.reply.kind == SYNICBOARD_NOT_PERFORMED) {
+        fprintf(stderr, "running: event %u: EOMs %lx, fault %u\n", event.kind, live.eoms, live.reply.fault);
         exit(1);
     }
     handle_notices(board);

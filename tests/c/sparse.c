@@ -140,9 +140,7 @@ static void test_many_processors(void)
     enum { VECTOR = 0x40, ONE_SHOT = 0x1401, AT_ONCE = 32 };
     synicboard board = SYNICBOARD_CLOSED;
     synicboard_due due;
-    uint8_t *pages[2 * MOST_PROCESSORS];
     CHECK_NUMBER(synicboard_open_sparse(&board, MOST_PROCESSORS, 0), SYNICBOARD_OK);
-    CHECK_NUMBER(synicboard_make_live(&board, pages), SYNICBOARD_BAD_SIZE);
     for (uint8_t vp = 0; vp < MOST_PROCESSORS; vp++)
         for (uint32_t timer = 0; timer < 4; timer++) {
             CHECK_REPLY(synicboard_write(&board, vp, STIMER0_COUNT + 2 * timer, 10), SYNICBOARD_DONE);

@@ -1,7 +1,7 @@
 /* A fuzz target for live pages: a board with live pages next to one whose pages trap. Both get the same events, and the
  * same stores of a guest: on one board these go to the live page, on the other each is an event. The replies must be the same, the
  * notices too except for CONSUMED, which comes later with live pages, and at the end, when all words have been looked
- * at, the images. Host and guest take turns here, so no processor is ever owed an EOM.
+ * at, the images. Host and guest take turns here, so the board never performs an EOM itself.
  *
  * An input is a list of actions, each of a byte and the bytes that it takes. A byte that is missing is 0. */
 #include <stdbool.h>
@@ -68,7 +68,7 @@ static void perform(const synicboard_event *event)
 {
     synicboard_reply reply = synicboard_perform(&trapped, event);
     synicboard_live_reply other = synicboard_act_live(&live, event);
-    REQUIRE(other.owed == 0 && other.late == 0);
+    REQUIRE(other.eoms == 0);
     REQUIRE(reply.kind == other.reply.kind && reply.fault == other.reply.fault && reply.refusal == other.reply.refusal && reply.vector == other.reply.vector
             && reply.value == other.reply.value && reply.ticket == other.reply.ticket);
     compare_notices();

@@ -424,7 +424,9 @@ impl Board {
     }
 
     /// Moves the clock to a time in units of 100 ns. If that is later than the present time, tries the
-    /// timers that are due by then: each expires, unless its message cannot be sent yet.
+    /// timers that are due by then, by their deadlines, until 32 have expired: each that is tried expires,
+    /// unless its message cannot be sent yet. On a board of more than eight processors some may be left: the
+    /// next tick to a later time tries them, again until 32 have expired.
     ///
     /// `Done`, or refused: `ClockBack`.
     pub fn tick(&mut self, moment: Moment) -> Reply {
@@ -455,8 +457,10 @@ impl Board {
 
     /// Forwards the vectors that are requested at processor `vp` to a local APIC outside the board (KVM's, say):
     /// each is taken and ended at once, and requested there by the caller. Call this after each event that has a
-    /// [`Requested`](crate::Notice::Requested) notice for the processor, and after it resumes, since a suspended
-    /// processor forwards nothing. Nothing if `vp` is not on the board. Afterwards there are no notices.
+    /// [`Requested`](crate::Notice::Requested) notice for the processor, after it resumes, since a suspended
+    /// processor forwards nothing, and once after the board is restored. A vector is held back while a TPR or a
+    /// vector in service is of its class or a higher one. Nothing if `vp` is not on the board: then the notices
+    /// stay, and otherwise there are none afterwards.
     ///
     /// ```
     /// use synicboard::{Board, Vector};
@@ -482,7 +486,7 @@ impl Board {
         Reply::of(ask!(self, synicboard_suspend, vp))
     }
 
-    /// Resumes a suspended processor. This tries no timer.
+    /// Resumes a suspended processor. This tries no timer: the next tick to a later time does.
     ///
     /// `Done`, or refused: `NotSuspended`.
     pub fn resume(&mut self, vp: u8) -> Reply {
@@ -653,15 +657,21 @@ impl Board {
         }
     }
 
-    /// The timer with the earliest deadline, and the deadline in units of 100 ns: arm the host's
-    /// timer for it. `None` if no timer has a deadline. Timers of suspended processors do not
-    /// count. A deadline above 2^64 - 1 is never reached by a tick.
+    /// The timer with the earliest deadline, and the deadline in units of 100 ns, even if it is late or not
+    /// ready to expire. `None` if no timer has a deadline. Timers of suspended processors do not count. A deadline above 2^64 - 1 is never reached by a tick.
     pub fn earliest(&self) -> Option<(u128, TimerId)> {
         first_due(&ask!(self, synicboard_earliest))
     }
 
-    /// The timer with the earliest deadline that is later than `moment`, and the deadline. A timer that is
-    /// due and not ready to expire stays the [`earliest`](Board::earliest) of all and hides the others.
+    /// When to tick next: the least time after the present at which a tick makes a timer expire or skip
+    /// periods, in units of 100 ns. A host arms its timer for it after each event. `None` if no tick does.
+    pub fn alarm(&self) -> Option<Moment> {
+        let next = ask!(self, synicboard_alarm);
+        next.is_set.then_some(next.moment)
+    }
+
+    /// The timer with the earliest deadline that is later than `moment`, and the deadline. A timer that is late
+    /// by more than a period is not among them: arm the host's timer for the [`alarm`](Board::alarm).
     pub fn earliest_after(&self, moment: Moment) -> Option<(u128, TimerId)> {
         first_due(&ask!(self, synicboard_earliest_after, moment))
     }

@@ -1,24 +1,23 @@
 //! A board whose message and event flags pages a running guest loads and stores.
 
 use crate::board::ask;
-use crate::notice::{Room, ROOM};
+use crate::notice::LiveRoom;
 use crate::{beyond_the_header, sys, Board, Event, Forwarded, Line, Notices, Reply, Vp};
 use core::fmt;
 use core::ptr;
 
-/// Two pages for each of eight processors.
-const MOST_PAGES: usize = 16;
+/// Two pages for each of 64 processors.
+const MOST_PAGES: usize = 128;
 
 /// The reply to an event on a board with live pages.
 #[derive(Clone, Copy, PartialEq, Eq, Debug)]
-#[must_use = "a processor that is owed an EOM waits for it"]
 pub struct LiveReply {
     /// The reply to the event itself.
     pub reply: Reply,
-    /// The processors that are owed an EOM, bit p for processor p: a message waits for each, whose slot its guest
-    /// has emptied meanwhile, perhaps without a look at MessagePending. The caller writes 0 to EOM of these
-    /// processors next. Only a tick and a write of a timer's register set bits.
-    pub owed: u64,
+    /// The processors of which the board performed an EOM after the event, bit p for processor p: a message waited
+    /// for each, whose slot its guest had emptied meanwhile, perhaps without a look at MessagePending. Only a tick
+    /// and a write of a timer's register set bits.
+    pub eoms: u64,
 }
 
 /// A board with live pages: for each processor a message page and an event flags page in memory, which the host maps
@@ -50,7 +49,7 @@ pub struct LiveReply {
 pub struct LiveBoard {
     board: Board,
     pages: [*mut u8; MOST_PAGES],
-    late: Room,
+    room: LiveRoom,
 }
 
 // SAFETY: that of the board, which is `Send`; the live pages are part of what its handle owns, and their addresses
@@ -62,14 +61,17 @@ impl Board {
     ///
     /// # Errors
     ///
-    /// The board itself, if it has more than eight processors or an allocation fails.
+    /// The board itself, if an allocation fails.
     // The board is the error, so that it is not lost.
     #[allow(clippy::result_large_err)]
     pub fn into_live(self) -> Result<LiveBoard, Board> {
         let mut pages = [ptr::null_mut(); MOST_PAGES];
+        let Some(room) = LiveRoom::new() else {
+            return Err(self);
+        };
         match ask!(self, synicboard_make_live, pages.as_mut_ptr()) {
-            sys::SYNICBOARD_OK => Ok(LiveBoard { board: self, pages, late: Room::new() }),
-            sys::SYNICBOARD_NO_MEMORY | sys::SYNICBOARD_BAD_SIZE => Err(self),
+            sys::SYNICBOARD_OK => Ok(LiveBoard { board: self, pages, room }),
+            sys::SYNICBOARD_NO_MEMORY => Err(self),
             answer => beyond_the_header(&answer),
         }
     }
@@ -80,7 +82,7 @@ impl LiveBoard {
     /// [`Elsewhere`](crate::Refusal::Elsewhere): the caller performs it in the live page.
     pub fn perform(&mut self, event: &Event) -> LiveReply {
         let live = ask!(self.board, synicboard_act_live, &event.to_plain());
-        LiveReply { reply: Reply::of(live.reply), owed: live.owed }
+        LiveReply { reply: Reply::of(live.reply), eoms: live.eoms }
     }
 
     /// [`Board::absorb_line`].
@@ -105,17 +107,13 @@ impl LiveBoard {
         Reply::of(ask!(self.board, synicboard_observe_all, vp))
     }
 
-    /// The notices of the last event or look, those of the guest's stores first.
+    /// The notices of the last event or look: of the guest's stores that were found before the event, of the
+    /// event, of the stores that were found after it, and of the EOMs.
     pub fn notices(&self) -> Notices<'_> {
-        self.board.notices()
-    }
-
-    /// The notices of the guest's stores that a tick found after it.
-    pub fn late_notices(&self) -> Notices<'_> {
-        let count = ask!(self.board, synicboard_late_notices, self.late.start(), ROOM);
+        let count = ask!(self.board, synicboard_notices, self.room.start(), sys::SYNICBOARD_MOST_LIVE_NOTICES);
         // SAFETY: the library wrote `count` notices, or as many as fit into the buffer, which is this
         // board's, and a live board is not `Sync`.
-        unsafe { self.late.first(count) }
+        unsafe { self.room.first(count) }
     }
 
     /// The board, for its queries. The pages that it returns are its own, as it knows them.

@@ -1,9 +1,11 @@
 //! Notices: what an event did, in addition to its reply.
 
 use crate::{beyond_the_header, sys, Moment, Sint, Ticket, TimerId, Vector, Vp};
+use alloc::vec::Vec;
 use core::cell::UnsafeCell;
 use core::fmt;
 use core::iter::FusedIterator;
+use core::marker::PhantomData;
 use core::mem::MaybeUninit;
 use core::ops::Range;
 
@@ -120,8 +122,8 @@ impl Notice {
     }
 }
 
-/// The capacity of a buffer: an event on a board with live pages may emit more notices than on others.
-pub(crate) const ROOM: usize = sys::SYNICBOARD_MOST_LIVE_NOTICES;
+/// The capacity of a buffer.
+pub(crate) const ROOM: usize = sys::SYNICBOARD_MOST_NOTICES;
 
 /// A buffer for the notices of an event, which the library fills.
 pub(crate) struct Room {
@@ -145,7 +147,37 @@ impl Room {
     /// That many were written, and no other thread writes to the buffer while the result is
     /// borrowed.
     pub(crate) unsafe fn first(&self, count: usize) -> Notices<'_> {
-        Notices { room: self, left: 0..count.min(ROOM) }
+        Notices { start: self.start(), left: 0..count.min(ROOM), board: PhantomData }
+    }
+}
+
+/// A buffer for the notices of an event on a board with live pages, of which there may be more.
+pub(crate) struct LiveRoom {
+    notices: UnsafeCell<Vec<sys::synicboard_notice>>,
+}
+
+impl LiveRoom {
+    /// A buffer, unless its allocation fails.
+    pub(crate) fn new() -> Option<LiveRoom> {
+        let mut notices = Vec::new();
+        notices.try_reserve_exact(sys::SYNICBOARD_MOST_LIVE_NOTICES).ok()?;
+        Some(LiveRoom { notices: UnsafeCell::new(notices) })
+    }
+
+    /// Its start. It has capacity for the notices of any event.
+    pub(crate) fn start(&self) -> *mut sys::synicboard_notice {
+        // SAFETY: no reference to the list is kept, and it is never resized.
+        unsafe { (*self.notices.get()).as_mut_ptr() }
+    }
+
+    /// The first `count` notices of the buffer.
+    ///
+    /// # Safety
+    ///
+    /// As for [`Room::first`].
+    pub(crate) unsafe fn first(&self, count: usize) -> Notices<'_> {
+        let left = 0..count.min(sys::SYNICBOARD_MOST_LIVE_NOTICES);
+        Notices { start: self.start(), left, board: PhantomData }
     }
 }
 
@@ -153,8 +185,9 @@ impl Room {
 /// are held.
 #[derive(Clone)]
 pub struct Notices<'board> {
-    room: &'board Room,
+    start: *const sys::synicboard_notice,
     left: Range<usize>,
+    board: PhantomData<&'board Room>,
 }
 
 impl Iterator for Notices<'_> {
@@ -164,7 +197,7 @@ impl Iterator for Notices<'_> {
         let at = self.left.next()?;
         // SAFETY: this element was written. It is copied, and no reference to it is kept: another
         // query for the notices of the same event writes the same value again.
-        let plain = unsafe { self.room.start().add(at).read() };
+        let plain = unsafe { self.start.add(at).read() };
         Some(Notice::of(&plain))
     }
 

@@ -404,6 +404,16 @@ pub struct synicboard_due {
     pub high: u64,
 }
 
+/// When a host must tick next, if `is_set`.
+#[repr(C)]
+#[derive(Clone, Copy, PartialEq, Eq, Debug)]
+pub struct synicboard_next_tick {
+    /// Whether any later tick makes a timer expire.
+    pub is_set: bool,
+    /// The time of the first such tick, in units of 100 ns.
+    pub moment: u64,
+}
+
 /// The next vector of each processor, 0 if it has none, and the earliest deadline.
 #[repr(C)]
 #[derive(Clone, Copy, PartialEq, Eq, Debug)]
@@ -445,8 +455,8 @@ pub struct synicboard_owners {
     pub page: [synicboard_page_owner; 64],
 }
 
-/// No event, and no `synicboard_observe`, emits more notices on a board with live pages, apart from the late ones.
-pub const SYNICBOARD_MOST_LIVE_NOTICES: usize = 320;
+/// No event, and no `synicboard_observe`, emits more notices on a board with live pages.
+pub const SYNICBOARD_MOST_LIVE_NOTICES: usize = 22720;
 
 /// The reply to an event on a board that may have live pages.
 #[repr(C)]
@@ -454,10 +464,8 @@ pub const SYNICBOARD_MOST_LIVE_NOTICES: usize = 320;
 pub struct synicboard_live_reply {
     /// The reply.
     pub reply: synicboard_reply,
-    /// The processors that are owed an EOM: bit p for processor p.
-    pub owed: u64,
-    /// How many late notices there are.
-    pub late: u16,
+    /// The processors of which the board performed an EOM: bit p for processor p.
+    pub eoms: u64,
 }
 
 /// A reference TSC page; all 0 if there is none.
@@ -655,6 +663,8 @@ extern "C" {
     pub fn synicboard_earliest(board: *const synicboard) -> synicboard_due;
     /// The timer with the earliest deadline that is later than `moment`.
     pub fn synicboard_earliest_after(board: *const synicboard, moment: u64) -> synicboard_due;
+    /// When a host must tick next.
+    pub fn synicboard_alarm(board: *const synicboard) -> synicboard_next_tick;
     /// Moves the clock, and stores the earliest deadline afterwards.
     pub fn synicboard_tick_due(
         board: *mut synicboard,
@@ -684,12 +694,6 @@ extern "C" {
     pub fn synicboard_is_live(board: *const synicboard) -> bool;
     /// Performs an event on a board with live pages or without.
     pub fn synicboard_act_live(board: *mut synicboard, event: *const synicboard_event) -> synicboard_live_reply;
-    /// Copies the late notices of the last event, as many as fit, and returns how many there are.
-    pub fn synicboard_late_notices(
-        board: *const synicboard,
-        room: *mut synicboard_notice,
-        length: usize,
-    ) -> usize;
     /// Looks at the message slots of a processor.
     pub fn synicboard_observe(board: *mut synicboard, vp: u8) -> synicboard_reply;
     /// Looks at all words of both live pages of a processor.

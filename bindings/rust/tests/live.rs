@@ -42,10 +42,10 @@ fn post(payload: &[u8]) -> Event {
 
 const END_MESSAGE: Event = Event::Write { vp: 0, register: EOM, value: 0 };
 
-/// Performs an event after which no processor is owed an EOM.
+/// Performs an event after which the board performs no EOM.
 fn act(board: &mut LiveBoard, event: &Event) -> Reply {
     let live = board.perform(event);
-    assert_eq!((live.owed, board.late_notices().len()), (0, 0), "{event:?}");
+    assert_eq!(live.eoms, 0, "{event:?}");
     live.reply
 }
 
@@ -73,7 +73,6 @@ fn empty(board: &LiveBoard) {
 #[track_caller]
 fn assert_notices(board: &LiveBoard, notices: &[Notice]) {
     assert_eq!(board.notices().collect::<Vec<_>>(), notices);
-    assert_eq!(board.late_notices().len(), 0);
 }
 
 fn consumed(ticket: u64) -> Notice {
@@ -385,13 +384,13 @@ impl Machine {
     fn perform(&mut self, event: &Event) -> LiveReply {
         let live = self.board.perform(event);
         let is_tick = matches!(event, Event::Tick { .. });
-        assert!(is_tick || (live.owed == 0 && self.board.late_notices().len() == 0), "{event:?}");
+        assert!(is_tick || live.eoms == 0, "{event:?}");
         self.count();
         live
     }
 
     fn count(&mut self) {
-        for notice in self.board.notices().chain(self.board.late_notices()) {
+        for notice in self.board.notices() {
             match notice {
                 Notice::Consumed { ticket, .. } => {
                     assert_eq!(ticket, self.consumed);
@@ -484,10 +483,7 @@ fn a_running_guest_receives_each_message_of_a_timer() {
         for moment in (10..).step_by(10) {
             let mut machine = machine.lock().unwrap();
             let live = machine.perform(&Event::Tick { moment });
-            assert_eq!((live.reply, live.owed & !1), (Reply::Done, 0));
-            if live.owed != 0 {
-                assert_eq!(machine.perform(&END_MESSAGE).reply, Reply::Done);
-            }
+            assert_eq!((live.reply, live.eoms & !1), (Reply::Done, 0));
             if machine.expired == EXPIRATIONS {
                 break;
             }

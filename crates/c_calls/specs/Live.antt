@@ -1,16 +1,13 @@
 -- What a call does to a board with live pages, and what it returns.
-use Rattle.std.specs.Prelude.{◌≡◌, ◌↔◌, ◌⊎◌, ◌<◌, ◌≤◌, ℕ, Bool, true, false, List, [], length, map, slice_index_or, Option, Some, None}
-use Rattle.std.specs.Int.{bit_at}
+use Rattle.std.specs.Prelude.{◌≡◌, ◌⊎◌, ◌<◌, ◌≤◌, ℕ, Bool, true, false, List, length, Option, Some, None}
 use Rattle.board_terms.specs.declared.notices.Notice.{Notice}
 use Rattle.board_terms.specs.declared.refusal.Refusal.TheVariants.{NoSuchProcessor}
 use Rattle.c_handles.specs.declared.any_board.AnyBoard.{AnyBoard}
 use Rattle.c_handles.specs.declared.any_board.AnyBoard.TheVariants.{Plain, Live}
 use Rattle.c_handles.specs.declared.live.LiveWithNotices.{LiveWithNotices}
-use Rattle.c_handles.specs.Kinds.{late_in, IsMadeLive}
-use Rattle.c_terms.specs.declared.notice.CNotice.{CNotice}
+use Rattle.c_handles.specs.Kinds.{IsMadeLive}
 use Rattle.c_terms.specs.declared.reply.CReply.{CReply}
 use Rattle.c_terms.specs.declared.reply.Fault.TheVariants.{Closed, NotLive, NoEvent}
-use Rattle.c_terms.specs.Notices.{notice_to_c}
 use Rattle.c_terms.specs.Replies.{reply_to_c, fault_to_c}
 use Rattle.live_board.specs.Acting.{Acts}
 use Rattle.live_board.specs.Live.{LiveModel}
@@ -28,38 +25,21 @@ is_live (Some (Live board)) = true
 is_live (Some (Plain board)) = false
 is_live None = false
 
--- a board without live pages that has more processors than a board with them may have
-abbrev pub IsTooLarge : Option AnyBoard → Type 0
-IsTooLarge (Some (Plain board)) = 8 < processors board.board.state
-IsTooLarge (Some (Live board)) = ⊥
-IsTooLarge None = ⊥
-
 -- the board of a handle got live pages
 abbrev pub GotPages : Option AnyBoard → Option AnyBoard → Type 0
 GotPages (Some board) (Some after) = IsMadeLive board after
 GotPages (Some board) None = ⊥
 GotPages None after = ⊥
 
--- the notices of the guest's stores that the last tick found after it
-abbrev pub late_notices_of : Option AnyBoard → List CNotice
-late_notices_of (Some board) = map notice_to_c (late_in board)
-late_notices_of None = []
-
--- a reply after which no processor is owed an EOM, and which has no late notices
+-- a reply after which the board performed no EOM
 abbrev pub alone : CReply → CLiveReply
-alone reply = record { reply = reply; owed = 0; late = 0 }
+alone reply = record { reply = reply; eoms = 0 }
 
--- bit p of a word is set iff processor p is owed an EOM, and no other bit is
-pub record MarksOwed (word : ℕ) (owed : List Bool) : Type 0 where
-  pub marked : (p : ℕ) → p < 8 → bit_at word p ≡ 1 ↔ (slice_index_or owed p false ≡ true)
-  pub others : (p : ℕ) → 8 ≤ p → p < 64 → bit_at word p ≡ 0
-
--- a board with live pages performs an event
+-- a board with live pages performs an event, and the EOMs that processors are owed after it
 abbrev pub IsActedOn : LiveWithNotices → Event → LiveWithNotices → CLiveReply → Type 0
 IsActedOn board event after result =
-    (reply : Reply) × (owed : List Bool) × Acts board.live event after.live reply owed after.notices after.late
-    × (result.reply ≡ reply_to_c reply (length after.notices)) × (result.late ≡ length after.late)
-    × MarksOwed result.owed owed
+    (reply : Reply) × Acts board.live event after.live reply result.eoms after.notices
+    × (result.reply ≡ reply_to_c reply (length after.notices))
 
 -- a call performs an event on the board of a handle, which may have live pages: without a board or without an event
 -- nothing changes
@@ -72,14 +52,13 @@ IsActedLive (Some event) (Some (Live board)) (Some (Live after)) result = IsActe
 IsActedLive (Some event) (Some (Live board)) after result = ⊥
 
 -- a call looks at live pages of a processor, by a relation of a board before and after it: without live pages or
--- without the processor
--- nothing changes
+-- without the processor nothing changes
 abbrev pub IsLookedAt : (ℕ → LiveModel → LiveModel → List Notice → Type 0) → ℕ → Option AnyBoard → Option AnyBoard
     → CReply → Type 0
 IsLookedAt Looks vp None after reply = (after ≡ None) × (reply ≡ fault_to_c Closed)
 IsLookedAt Looks vp (Some (Plain board)) after reply = (after ≡ Some (Plain board)) × (reply ≡ fault_to_c NotLive)
 IsLookedAt Looks vp (Some (Live board)) (Some (Live after)) reply =
-    ((vp < processors board.live.board.state) × Looks vp board.live after.live after.notices × (after.late ≡ [])
+    ((vp < processors board.live.board.state) × Looks vp board.live after.live after.notices
     × (reply ≡ reply_to_c Done (length after.notices)))
     ⊎ ((processors board.live.board.state ≤ vp) × (after ≡ board) × (reply ≡ reply_to_c (Refused NoSuchProcessor) 0))
 IsLookedAt Looks vp (Some (Live board)) after reply = ⊥

@@ -11,6 +11,8 @@ use Rattle.c_handles.specs.declared.any_board.AnyBoard.{AnyBoard}
 use Rattle.c_handles.specs.Kinds.{state_in, notices_in}
 use Rattle.c_terms.specs.declared.notice.CNotice.{CNotice}
 use Rattle.c_terms.specs.Notices.{notice_to_c}
+use Rattle.c_calls.specs.declared.looks.CAlarm.{CAlarm}
+use Rattle.synic_board.specs.Alarm.{alarm_in_word}
 use Rattle.c_calls.specs.declared.looks.COwner.{COwner}
 use Rattle.c_calls.specs.declared.looks.COverlay.{COverlay}
 use Rattle.c_calls.specs.declared.looks.CDeadline.{CDeadline}
@@ -81,6 +83,15 @@ abbrev pub earliest_of : Option AnyBoard → CDeadline
 earliest_of board = deadline_to_c (summary_or None (λ values. values.earliest) board)
 
 -- the same among the deadlines later than a time
+-- the alarm of a board, if there is one
+abbrev pub alarm_to_c : Option ℕ → CAlarm
+alarm_to_c None = record { is_set = false; moment = 0 }
+alarm_to_c (Some moment) = record { is_set = true; moment = moment }
+
+abbrev pub alarm_of : Option AnyBoard → CAlarm
+alarm_of None = alarm_to_c None
+alarm_of (Some board) = alarm_to_c (alarm_in_word (state_in board))
+
 abbrev pub earliest_after_of : Option AnyBoard → ℕ → CDeadline
 earliest_after_of None moment = deadline_to_c None
 earliest_after_of (Some board) moment = deadline_to_c (least (later_than moment (dues (bank_of (state_in board)))))

@@ -2,18 +2,15 @@
 ghost use Rattle.std.specs.Prelude.{◌≡◌, ◌≢◌, ◌↔◌, ◌<◌, ◌≤◌, true, false, [], ◌∷◌, length, None, Some, IfSome, IfNone, IsTrue};
 ghost use Rattle.c_handles.specs.Kinds.{IsMadeLive};
 ghost use Rattle.c_terms.specs.Events.{event_from_c};
-ghost use Rattle.c_terms.specs.Rooms.{Fronts};
 ghost use Rattle.live_board.specs.Live.{IsObserved};
 ghost use Rattle.live_board.specs.Settling.{IsSettled};
 ghost use Rattle.synic_board.specs.State.{processors};
-ghost use Rattle.c_calls.specs.Live.{is_live, IsTooLarge, GotPages, alone, MarksOwed, IsActedLive, IsActedOn, IsLookedAt, late_notices_of};
+ghost use Rattle.c_calls.specs.Live.{is_live, GotPages, alone, IsActedLive, IsActedOn, IsLookedAt};
 ghost use Rattle.c_calls.specs.Outcomes.{is_among};
 
-use crate::views::with_bit;
 use board_terms::{Refusal, Vp};
 use c_handles::{AnyBoard, BoardHandle, LiveWithNotices};
-use c_terms::{CEvent, CNotice, CReply, Fault, event_of, fault_to_c, put_plain, reply_to_c};
-use live_board::MOST_PROCESSORS;
+use c_terms::{CEvent, CReply, Fault, event_of, fault_to_c, reply_to_c};
 use std::alloc::Global;
 use synic_board::{Event, Reply};
 
@@ -23,21 +20,18 @@ use synic_board::{Event, Reply};
 pub struct CLiveReply {
     /// The reply to the event itself.
     pub reply: CReply,
-    /// The processors that are owed an EOM, which the caller performs next: bit p for processor p.
-    pub owed: u64,
-    /// How many notices came from stores of the guest that a tick found after it.
-    pub late: u16,
+    /// The processors of which the board performed an EOM after the event, since a message waited whose slot
+    /// the guest had emptied: bit p for processor p.
+    pub eoms: u64,
 }
 
 /// Gives the board of a handle live pages, which have the bytes of its message and event flags pages.
-/// Returns 0; or 1 if the board has more than eight processors, 2 if an allocation fails, 4 if the handle
-/// is closed, 14 if the board has live pages.
+/// Returns 0; or 2 if an allocation fails, 4 if the handle is closed, 14 if the board has live pages.
 /// Allocates all memory that events need.
 #[unsafe(no_mangle)]
 pub extern "C" fn synicboard_make_live(alloc: Global, handle: &mut BoardHandle) -> u8
-    ensures answers { is_among (0 ∷ 1 ∷ 2 ∷ 4 ∷ 14 ∷ []) result ≡ true }
+    ensures answers { is_among (0 ∷ 2 ∷ 4 ∷ 14 ∷ []) result ≡ true }
     ensures closed { (result ≡ 4) ↔ (handle.old.board ≡ None) }
-    ensures size { (result ≡ 1) ↔ IsTooLarge handle.old.board }
     ensures live { (result ≡ 14) ↔ (is_live handle.old.board ≡ true) }
     ensures made { result ≡ 0 → GotPages handle.old.board handle.new.board }
     ensures kept { result ≢ 0 → handle.new.board ≡ handle.old.board }
@@ -50,15 +44,11 @@ pub extern "C" fn synicboard_make_live(alloc: Global, handle: &mut BoardHandle) 
 
 /// Gives a board live pages, if it has none.
 fn make_live(alloc: Global, board: &mut AnyBoard) -> u8
-    ensures answers { is_among (0 ∷ 1 ∷ 2 ∷ 14 ∷ []) result ≡ true }
-    ensures size { (result ≡ 1) ↔ IsTooLarge (Some board.old) }
+    ensures answers { is_among (0 ∷ 2 ∷ 14 ∷ []) result ≡ true }
     ensures live { (result ≡ 14) ↔ (is_live (Some board.old) ≡ true) }
     ensures made { result ≡ 0 → IsMadeLive board.old board.new }
     ensures kept { result ≢ 0 → board.new ≡ board.old }
 {
-    if is_too_large(board) {
-        return 1;
-    }
     if is_live(board) {
         return 14;
     }
@@ -68,24 +58,14 @@ fn make_live(alloc: Global, board: &mut AnyBoard) -> u8
     }
 }
 
-/// Whether a board without live pages has more processors than a board with them may have.
-fn is_too_large(board: &AnyBoard) -> bool
-    ensures large { IsTrue result ↔ IsTooLarge (Some board.now) }
-    ensures plain { IsTrue result → is_live (Some board.now) ≡ false }
-{
-    match board {
-        AnyBoard::Plain(held) => held.board.processors() > MOST_PROCESSORS,
-        AnyBoard::Live(_) => false,
-    }
-}
-
 fn is_live(board: &AnyBoard) -> bool
     ensures { result ≡ is_live (Some board.now) }
 {
     matches!(board, AnyBoard::Live(_))
 }
 
-/// Performs an event that is given as a struct, on a board that may have live pages.
+/// Performs an event that is given as a struct, on a board that may have live pages, and an EOM of each
+/// processor that is owed one after it.
 #[unsafe(no_mangle)]
 pub extern "C" fn synicboard_act_live(handle: &mut BoardHandle, plain: &CEvent) -> CLiveReply
     ensures { IsActedLive (event_from_c plain.now) handle.old.board handle.new.board result }
@@ -114,34 +94,18 @@ fn act_in(board: &mut AnyBoard, event: &Event) -> CLiveReply
 fn act(board: &mut LiveWithNotices, event: &Event) -> CLiveReply
     ensures { IsActedOn board.old event.now board.new result }
 {
-    let (reply, owed) = board.perform(event);
+    let (reply, eoms) = board.perform(event);
     CLiveReply {
         reply: reply_to_c(reply, board.notices.as_slice().len() as u16),
-        owed: mask_of(&owed),
-        late: board.late.as_slice().len() as u16,
+        eoms,
     }
 }
 
-/// A reply after which no processor is owed an EOM, and which has no late notices.
+/// A reply after which the board performed no EOM.
 fn alone(reply: CReply) -> CLiveReply
     ensures { result ≡ alone reply }
 {
-    CLiveReply {
-        reply,
-        owed: 0,
-        late: 0,
-    }
-}
-
-/// A word with a bit for each processor that is owed an EOM.
-fn mask_of(owed: &[bool; 8]) -> u64
-    ensures { MarksOwed result owed.now }
-{
-    let mut mask = 0;
-    for vp in 0..8u8 {
-        mask = with_bit(mask, vp, owed[vp as usize]);
-    }
-    mask
+    CLiveReply { reply, eoms: 0 }
 }
 
 /// Looks at the header of each message slot of processor `vp` in its live page, if the guest sees it: the
@@ -207,32 +171,6 @@ fn vp_of(board: &LiveWithNotices, vp: u8) -> Option<Vp>
     } else {
         None
     }
-}
-
-/// Copies the notices of the stores that the last tick found after it, as many as fit, and returns how many
-/// there are.
-#[unsafe(no_mangle)]
-pub extern "C" fn synicboard_late_notices(handle: &mut BoardHandle, room: &mut [CNotice]) -> usize
-    ensures board { handle.new.board ≡ handle.old.board }
-    ensures count { result ≡ length (late_notices_of handle.old.board) }
-    ensures copied { Fronts (late_notices_of handle.old.board) room.old room.new }
-{
-    match handle.board_mut() {
-        Some(board) => late_notices_in(board, room),
-        None => 0,
-    }
-}
-
-fn late_notices_in(board: &AnyBoard, room: &mut [CNotice]) -> usize
-    ensures count { result ≡ length (late_notices_of (Some board.now)) }
-    ensures copied { Fronts (late_notices_of (Some board.now)) room.old room.new }
-{
-    let AnyBoard::Live(board) = board else {
-        return 0;
-    };
-    let notices = board.late.as_slice();
-    put_plain(notices, room);
-    notices.len()
 }
 
 /// Whether the board of a handle has live pages.

@@ -2,7 +2,7 @@
 ghost use Rattle.std.specs.Prelude.{◌≡◌, None};
 ghost use Rattle.std.specs.FinSet as set;
 ghost use Rattle.board_terms.specs.declared.pages.Owner.TheVariants as owner;
-ghost use Rattle.c_calls.specs.Looks.{next_vector_of, is_auto_eoi_of, owner_to_c, owner_at, IsNextOverlayOf, queue_length_of, deadline_to_c, earliest_of, earliest_after_of, time_of, next_ticket_of};
+ghost use Rattle.c_calls.specs.Looks.{next_vector_of, is_auto_eoi_of, owner_to_c, owner_at, IsNextOverlayOf, queue_length_of, deadline_to_c, earliest_of, earliest_after_of, alarm_of, time_of, next_ticket_of};
 
 use board_terms::{Owner, Sint, TimerId, Vector, Vp};
 use c_handles::BoardHandle;
@@ -165,6 +165,36 @@ pub extern "C" fn synicboard_earliest_after(handle: &mut BoardHandle, moment: u6
         None => None,
     };
     deadline_to_c(earliest)
+}
+
+/// When a host must tick next: at `moment`, if `is_set`.
+#[repr(C)]
+#[derive(Clone, Copy, PartialEq)]
+pub struct CAlarm {
+    pub is_set: bool,
+    pub moment: u64,
+}
+
+/// The least time after the present at which a tick makes a timer expire or skip periods.
+#[unsafe(no_mangle)]
+pub extern "C" fn synicboard_alarm(handle: &mut BoardHandle) -> CAlarm
+    ensures board { handle.new.board ≡ handle.old.board }
+    ensures alarm { result ≡ alarm_of handle.old.board }
+{
+    let alarm = match handle.board_mut() {
+        Some(board) => board.board().alarm(),
+        None => None,
+    };
+    match alarm {
+        Some(moment) => CAlarm {
+            is_set: true,
+            moment,
+        },
+        None => CAlarm {
+            is_set: false,
+            moment: 0,
+        },
+    }
 }
 
 /// A timer with its deadline as a struct.

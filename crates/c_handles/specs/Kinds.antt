@@ -19,11 +19,6 @@ abbrev pub notices_in : AnyBoard → List Notice
 notices_in (Plain held) = held.notices
 notices_in (Live held) = held.notices
 
--- the notices of the guest's stores that the last tick found after it
-abbrev pub late_in : AnyBoard → List Notice
-late_in (Plain held) = []
-late_in (Live held) = held.late
-
 -- the accesses of the host to the live pages, if there are such pages
 abbrev pub pages_in : AnyBoard → Option (List (List Access))
 pages_in (Plain held) = None
@@ -31,6 +26,6 @@ pages_in (Live held) = Some held.live.pages
 
 -- a plain board got live pages, and has no notices; a live one stays unchanged
 abbrev pub IsMadeLive : AnyBoard → AnyBoard → Type 0
-IsMadeLive (Plain held) (Live after) = (after.live.board ≡ held.board) × (after.notices ≡ []) × (after.late ≡ [])
+IsMadeLive (Plain held) (Live after) = (after.live.board ≡ held.board) × (after.notices ≡ [])
 IsMadeLive (Plain held) (Plain after) = ⊥
 IsMadeLive (Live held) after = after ≡ Live held

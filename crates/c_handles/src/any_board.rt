@@ -2,7 +2,7 @@
 ghost use Rattle.std.specs.Prelude.{◌≡◌, [], IfOk, OnErr};
 ghost use Rattle.synic_board.specs.declared.event.Event.TheVariants.{Absorb};
 ghost use Rattle.synic_board.specs.Performing.{Performs};
-ghost use Rattle.c_handles.specs.Kinds.{board_in, notices_in, late_in, pages_in, IsMadeLive};
+ghost use Rattle.c_handles.specs.Kinds.{board_in, notices_in, pages_in, IsMadeLive};
 
 use crate::{BoardWithNotices, LiveWithNotices};
 use board_terms::Notice;
@@ -45,7 +45,6 @@ impl AnyBoard {
         ensures performs { Performs (board_in self.old) (Absorb vp part bits) (board_in self.new) result
             (notices_in self.new) }
         ensures pages { pages_in self.new ≡ pages_in self.old }
-        ensures late { late_in self.new ≡ [] }
     {
         let event = Event::Absorb { vp, part, bits };
         match self {

@@ -90,7 +90,7 @@ impl BoardWithNotices {
     /// The board with live pages, without notices. If an allocation fails, returns it unchanged.
     pub fn into_live(self, alloc: Global) -> Result<LiveWithNotices, BoardWithNotices>
         ensures live { IfOk result (λ held. held.live.board ≡ self.board) }
-        ensures notices { IfOk result (λ held. (held.notices ≡ []) × (held.late ≡ [])) }
+        ensures notices { IfOk result (λ held. held.notices ≡ []) }
         ensures kept { IfErr result (λ back. back ≡ self) }
     {
         let BoardWithNotices { board, notices } = self;

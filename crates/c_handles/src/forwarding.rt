@@ -7,7 +7,7 @@ ghost use Rattle.synic_board.specs.declared.event.Event.TheVariants.{Take, Write
 ghost use Rattle.synic_regs.specs.Registers.{number_of_register};
 ghost use Rattle.synic_regs.specs.declared.register.Register.TheVariants.{Eoi};
 ghost use Rattle.c_handles.specs.Forwarding.{IsForwarded};
-ghost use Rattle.c_handles.specs.Kinds.{board_in, state_in, notices_in, late_in, pages_in};
+ghost use Rattle.c_handles.specs.Kinds.{board_in, state_in, notices_in, pages_in};
 ghost use Rattle.c_handles.specs.inside.ForwardingOne.{ForwardsOne};
 
 use crate::AnyBoard;
@@ -46,7 +46,6 @@ impl AnyBoard {
         ensures forwarded { IsForwarded (state_in self.old) vp (state_in self.new) result }
         ensures notices { notices_in self.new ≡ [] }
         ensures pages { pages_in self.new ≡ pages_in self.old }
-        ensures late { late_in self.new ≡ [] }
     {
         let mut forwarded = Forwarded::none();
         self.clear_notices();
@@ -58,11 +57,9 @@ impl AnyBoard {
     fn forward_one(&mut self, vp: Vp, forwarded: &mut Forwarded) -> bool
         requires on { vp < processors (state_in self.old) }
         requires notices { notices_in self.old ≡ [] }
-        requires late { late_in self.old ≡ [] }
         ensures one { ForwardsOne (state_in self.old) vp (state_in self.new) forwarded.old forwarded.new result }
         ensures notices { notices_in self.new ≡ [] }
         ensures pages { pages_in self.new ≡ pages_in self.old }
-        ensures late { late_in self.new ≡ [] }
     {
         let Some(vector) = self.board().lapic(vp).next() else {
             return false;
@@ -82,7 +79,6 @@ impl AnyBoard {
     fn take(&mut self, vp: Vp) -> Reply
         ensures performs { Performs (board_in self.old) (Take vp) (board_in self.new) result (notices_in self.new) }
         ensures pages { pages_in self.new ≡ pages_in self.old }
-        ensures late { late_in self.new ≡ [] }
     {
         let event = Event::Take { vp: vp.number() };
         match self {
@@ -96,7 +92,6 @@ impl AnyBoard {
         ensures performs { Performs (board_in self.old) (Write vp (number_of_register Eoi) 0)
             (board_in self.new) result (notices_in self.new) }
         ensures pages { pages_in self.new ≡ pages_in self.old }
-        ensures late { late_in self.new ≡ [] }
     {
         let event = Event::Write {
             vp: vp.number(),
@@ -114,14 +109,10 @@ impl AnyBoard {
         ensures board { board_in self.new ≡ board_in self.old }
         ensures pages { pages_in self.new ≡ pages_in self.old }
         ensures notices { notices_in self.new ≡ [] }
-        ensures late { late_in self.new ≡ [] }
     {
         match self {
             AnyBoard::Plain(held) => held.notices.clear(),
-            AnyBoard::Live(held) => {
-                held.notices.clear();
-                held.late.clear();
-            }
+            AnyBoard::Live(held) => held.notices.clear(),
         }
     }
 }

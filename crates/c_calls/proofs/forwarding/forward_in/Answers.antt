@@ -12,6 +12,5 @@ returns c = inl record {
   encoded = c.encoded.ensures;
   replied = c.reply_to_c-2.ensures;
   notices = c.forward.ensures.notices;
-  late = c.forward.ensures.late;
   pages = c.forward.ensures.pages;
 }

@@ -12,7 +12,6 @@ loop-vp-init c =
           (forwarding-none (state_in c.args.self.now) c.args.vp c.none-forwarded.result
           c.none-forwarded.ensures.vectors c.none-forwarded.ensures.auto_eoi),
       c.clear_notices.ensures.notices,
-      c.clear_notices.ensures.late,
       c.clear_notices.ensures.pages,
     )
 
@@ -23,9 +22,6 @@ forward_one-requires-clause-on c =
 
 pub forward_one-requires-clause-notices : goal.forward_one-requires-clause-notices
 forward_one-requires-clause-notices c = c.loop-vp.invariant.1
-
-pub forward_one-requires-clause-late : goal.forward_one-requires-clause-late
-forward_one-requires-clause-late c = c.loop-vp.invariant.2
 
 pub loop-vp-smaller : goal.loop-vp-smaller
 loop-vp-smaller c =
@@ -41,8 +37,7 @@ loop-vp-preserved c = (
       (state_in c.forward_one.new.self) c.args.vp c.loop-vp-test.ensures.one.0 c.requires c.loop-vp.forwarded
       c.forward_one.new.forwarded c.loop-vp.invariant.0 c.loop-vp-test.ensures.one.1,
   c.loop-vp-test.ensures.notices,
-  c.loop-vp-test.ensures.late,
-  c.loop-vp-test.ensures.pages ∙ c.loop-vp.invariant.3,
+  c.loop-vp-test.ensures.pages ∙ c.loop-vp.invariant.2,
 )
 
 pub returns-clause-forwarded : goal.returns-clause-forwarded
@@ -54,4 +49,4 @@ returns-clause-forwarded c =
     (subst (λ (s : State). IsForwarded (state_in c.args.self.now) c.args.vp s c.loop-vp.forwarded) (sym end.1) was)
 
 pub returns-clause-pages : goal.returns-clause-pages
-returns-clause-pages c = c.loop-vp-test.ensures.pages ∙ c.loop-vp.invariant.3
+returns-clause-pages c = c.loop-vp-test.ensures.pages ∙ c.loop-vp.invariant.2
