@@ -1,6 +1,8 @@
 # The scripts at the root as targets. Each finds out by itself what is missing, and says in its first lines what it does.
 #   make [all]               the proved program, and the library for C
 #   make install PREFIX=DIR  both, with the tools and documents, below DIR (/usr/local)
+#   make definitions         the definitions in Agda, checked by it, and a program of them, in build/definitions
+#   make guest               the conformance suite as a guest, in build/guest (docs/CONFORMANCE.md)
 #   make package, make test  as ./package and ./test
 PREFIX ?= /usr/local
 
@@ -15,11 +17,17 @@ library:
 install:
 	./install "$(PREFIX)"
 
+definitions:
+	tools/definitions/build build/definitions
+
+guest:
+	conformance/guest/image build/guest
+
 package:
 	./package
 
 test:
 	./test
 
-.PHONY: all synicboard library install package test
+.PHONY: all synicboard library install definitions guest package test
 .NOTPARALLEL:

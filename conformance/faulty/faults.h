@@ -53,6 +53,7 @@
     F(auto_of_all, false, "every source is auto-EOI") \
     F(auto_at_raise, false, "auto-EOI is decided when the source raises") \
     F(auto_of_first, false, "only the first source with the vector decides on auto-EOI") \
+    F(auto_of_first_five, false, "only SINT0 to SINT4 may be auto-EOI") \
     F(masked_raises, false, "a masked source raises its vector") \
     F(tpr_at_reset, false, "TPR is f0 after the opening and after a reset") \
     F(sint_zero_at_reset, false, "SINTs are 0 after the opening and after a reset") \
@@ -80,6 +81,7 @@
     F(queues_shared, false, "a source's number alone chooses the slot: processor 0's") \
     F(eom_first_only, false, "EOM attempts delivery for the first queue only") \
     F(eom_skips_source_0, false, "EOM attempts no delivery for SINT0") \
+    F(eom_first_eight, false, "EOM attempts delivery for SINT0 to SINT7 only") \
     F(eom_backwards, false, "EOM attempts delivery from SINT15 to SINT0") \
     F(eom_drains, false, "EOM withdraws what does not fit") \
     F(eom_everywhere, false, "EOM attempts delivery for all processors") \
@@ -164,6 +166,8 @@
     F(reset_keeps_queue, false, "a reset keeps queued messages") \
     F(reset_keeps_slot, false, "a reset reports no message of a slot") \
     F(reset_keeps_pages, false, "a reset keeps the contents of the pages") \
+    F(reset_clears_1024, false, "a reset clears the first 1024 bytes of each page only") \
+    F(reset_of_eight, false, "a reset withdraws the messages of SINT0 to SINT7 only") \
     F(reset_keeps_requests, false, "a reset keeps requested vectors") \
     F(reset_keeps_service, false, "a reset keeps vectors in service") \
     F(reset_keeps_tpr, false, "a reset keeps TPR") \

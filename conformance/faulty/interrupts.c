@@ -28,7 +28,7 @@ static bool is_auto(unsigned vp, unsigned vector)
     const struct processor *p = &board.vps[vp];
     if (IS(auto_at_raise))
         return p->raised_auto[vector];
-    for (unsigned s = 0; s < SOURCES; s++) {
+    for (unsigned s = 0; s < (IS(auto_of_first_five) ? 5 : SOURCES); s++) {
         if (is_auto_source(p->sint[s], vector))
             return true;
         if (IS(auto_of_first) && (p->sint[s] & 0xff) == vector)

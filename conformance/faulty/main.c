@@ -219,7 +219,7 @@ static struct peer_reply resume(unsigned vp)
 
 static void withdraw_all(unsigned vp)
 {
-    for (unsigned s = 0; s < SOURCES; s++) {
+    for (unsigned s = 0; s < (IS(reset_of_eight) ? 8 : SOURCES); s++) {
         struct source *source = &board.vps[vp].sources[s];
         if (source->has_ticket && !IS(reset_keeps_slot))
             peer_notice("withdrawn %llu %u %u", (unsigned long long)source->ticket, vp, s);
@@ -234,10 +234,9 @@ static void withdraw_all(unsigned vp)
 /* What a reset does not clear, by a fault. */
 static void keep(struct processor *p, const struct processor *before)
 {
-    if (IS(reset_keeps_pages)) {
-        memcpy(p->sim, before->sim, sizeof p->sim);
-        memcpy(p->sief, before->sief, sizeof p->sief);
-    }
+    size_t kept_from = IS(reset_keeps_pages) ? 0 : IS(reset_clears_1024) ? 1024 : sizeof p->sim;
+    memcpy(p->sim + kept_from, before->sim + kept_from, sizeof p->sim - kept_from);
+    memcpy(p->sief + kept_from, before->sief + kept_from, sizeof p->sief - kept_from);
     if (IS(reset_keeps_requests))
         memcpy(p->requested, before->requested, sizeof p->requested);
     if (IS(reset_keeps_service))

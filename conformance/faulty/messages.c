@@ -217,6 +217,8 @@ void end_of_message(unsigned vp)
     }
     for (unsigned at = 0; at < SOURCES; at++) {
         unsigned s = IS(eom_backwards) ? SOURCES - 1 - at : at;
+        if (s == 8 && IS(eom_first_eight))
+            return;
         repeat(vp, s);
         bool is_tried = board.vps[vp].sources[s].first != NULL;
         if (s == 0 && IS(eom_skips_source_0))

@@ -1,5 +1,5 @@
-# A Debian kernel for a virtual machine: sourced by conformance/kvm/run and tests/kvm/linux, which set $name (of the
-# script, for its lines), $kernel (6.1 or 6.12) and $work (a folder).
+# A Debian kernel for a virtual machine: sourced by conformance/kvm/run, conformance/guest/run and tests/kvm/linux, which
+# set $name (of the script, for its lines), $kernel (6.1 or 6.12) and $work (a folder).
 cache=${XDG_CACHE_HOME:-$HOME/.cache}/synicboard
 
 missing() {

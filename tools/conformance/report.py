@@ -24,17 +24,17 @@ def explanation(result):
     yield from words.explained(result.case.lines, result.reference, result.peer, result.at)
 
 
-def table(results, names_passing=True):
+def table(results, names_passing=True, verdicts=VERDICTS):
     by_topic = counts(results)
     for result in results:
         if result.verdict == "failed":
             yield from explanation(result)
             yield ""
-    yield "%-20s" % "topic" + "".join("%9s" % verdict for verdict in VERDICTS)
+    yield "%-20s" % "topic" + "".join("%9s" % verdict for verdict in verdicts)
     for topic, found in by_topic.items():
-        yield "%-20s" % topic + "".join("%9s" % (found[verdict] or "") for verdict in VERDICTS)
+        yield "%-20s" % topic + "".join("%9s" % (found[verdict] or "") for verdict in verdicts)
     total = sum(by_topic.values(), collections.Counter())
-    yield "%-20s" % "all" + "".join("%9d" % total[verdict] for verdict in VERDICTS)
+    yield "%-20s" % "all" + "".join("%9d" % total[verdict] for verdict in verdicts)
     missing = sorted({result.detail for result in results if result.verdict == "skipped"})
     for detail in missing:
         yield "skipped: %s" % detail
@@ -47,7 +47,7 @@ def two_counts(results):
     """How many cases of the standard passed, and how many of the profile."""
     parts = []
     for name, is_profile in (("standard", False), ("profile", True)):
-        some = [result for result in results if result.case.is_profile == is_profile and result.verdict != "skipped"]
+        some = [result for result in results if result.case.is_profile == is_profile and result.verdict not in ("skipped", "late")]
         parts.append("%s: %d of %d" % (name, sum(result.verdict == "passed" for result in some), len(some)))
     return "; ".join(parts)
 
