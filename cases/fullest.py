@@ -34,8 +34,9 @@ def first_ticket(processors, pages):
 
 
 def target(port, processors):
-    """The processor and the source of a port: each processor has as many ports."""
-    return port % processors, FIRST_SINT + port // processors
+    """The processor and the source of a port: the processors whose numbers are widest share the ports."""
+    widest = [vp for vp in range(processors) if len(str(vp)) == len(str(processors - 1))]
+    return widest[port % len(widest)], FIRST_SINT + port // len(widest)
 
 
 def words(first):
@@ -91,7 +92,8 @@ def image(processors, pages):
 def script_and_output(processors, pages):
     """Events on that board: port 0 has no buffer left, and closing it withdraws its messages."""
     vp, sint = target(0, processors)
-    first = first_ticket(processors, pages)
+    # those before it are of the timers of the processors below
+    first = first_ticket(processors, pages) + 4 * vp
     withdrawn = "".join(". withdrawn %d %d %d\n" % (first + k, vp, sint) for k in range(BUFFERS))
     return ("post 0 1 -\nclose 0\npost 0 1 -\n",
             "= refused 8\n= done\n%s= refused 1\n" % withdrawn)

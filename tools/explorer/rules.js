@@ -17,7 +17,7 @@ const RULES = {
   other: "Any other write leaves no deadline",
   target: "Enabled is cleared at once if the mode is not direct and SINTx is 0, or if the mode is direct and the vector is below 16.",
   asleep: "A timer of a suspended processor is not due, whatever its deadline",
-  later: "A timer whose deadline has passed by then is tried by the next tick to a later time, or by the next write of it that leaves it due.",
+  later: "A timer whose deadline has passed by then is tried by the next tick to a later time, unless 32 timers before it expire there, or by the next write of it that leaves it due.",
   ready: "SCONTROL bit 0 of its processor is set, it has no message queued, and a ticket is left",
   stays: "A timer that is not ready is unchanged and stays due.",
   tick: "the time advances; the timers that are due by then, except those of suspended processors, are sorted by (deadline, processor, index), and each is tried once in that order",
