@@ -59,6 +59,14 @@ static void restore_others(struct cpu *self)
     }
 }
 
+/* As after a reset. Some hypervisors raise #GP for vector 0, also of a masked source, and keep what was there. */
+static void mask_source(struct cpu *self, unsigned sint)
+{
+    uint64_t value = 0x10000, other = 0x1001f;
+    if (access_register(self, SINT0 + sint, &value, true))
+        access_register(self, SINT0 + sint, &other, true);
+}
+
 static void end_messages(struct cpu *self)
 {
     volatile uint8_t *mine = scratch[self - cpus];
@@ -87,7 +95,7 @@ void clean(struct cpu *self)
     }
     write_register(self, TPR, 0);
     for (unsigned sint = 0; sint < 16; sint++)
-        write_register(self, SINT0 + sint, 0x10000);
+        mask_source(self, sint);
     end_messages(self);
     for (unsigned turn = 0; turn < 16; turn++)
         write_register(self, EOI, 0);
