@@ -15,7 +15,8 @@ start:  cli
 1:      jmp     ready
 
         .balign 4
-        .long   0x1badb002, 3, -(0x1badb002 + 3)        /* Multiboot */
+        .long   0x1badb002, 7, -(0x1badb002 + 7)        /* Multiboot; its screen: text, or else a framebuffer */
+        .long   0, 0, 0, 0, 0, 1, 0, 0, 0
 
         .section .note.pvh, "a", @note
         .long   4, 4, 18                /* XEN_ELFNOTE_PHYS32_ENTRY */

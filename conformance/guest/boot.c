@@ -1,7 +1,8 @@
-/* What the loader passes: the command line of Multiboot or of PVH. */
+/* What the loader passes: the command line of Multiboot or of PVH, and the framebuffer of Multiboot. */
 #include "guest.h"
 
 enum { MULTIBOOT = 0x2badb002, HAS_COMMAND_LINE = 1 << 2, OF_MULTIBOOT = 16, PVH = 0x336ec578, OF_PVH = 24 };
+enum { HAS_FRAMEBUFFER = 1 << 12, OF_FRAMEBUFFER = 88 };
 
 extern uint32_t boot_magic, boot_info;
 
@@ -51,4 +52,13 @@ void boot_read_options(void)
         while (*at == ' ')
             at++;
     }
+}
+
+/* NULL if there is none. */
+const struct framebuffer *boot_framebuffer(void)
+{
+    const uint32_t *info = (const uint32_t *)(uintptr_t)boot_info;
+    if (boot_info == 0 || boot_magic != MULTIBOOT || (info[0] & HAS_FRAMEBUFFER) == 0)
+        return NULL;
+    return (const struct framebuffer *)(info + OF_FRAMEBUFFER / 4);
 }

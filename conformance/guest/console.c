@@ -1,10 +1,8 @@
-/* The first serial port, and a screen of text. Both may be absent. */
+/* The first serial port, which may be absent, and the screen. */
 #include "guest.h"
 
-enum { SERIAL = 0x3f8, COLUMNS = 80, ROWS = 25, WHITE = 0x0700 };
+enum { SERIAL = 0x3f8 };
 
-static volatile uint16_t *const screen = (volatile uint16_t *)0xb8000;
-static unsigned row, column;
 static bool has_serial;
 
 /* 115200 baud, 8 bits, no parity. A port that is absent reads as ones. */
@@ -16,34 +14,12 @@ void console_open(void)
     has_serial = in(SERIAL + 5) != 0xff;
     for (unsigned at = 0; has_serial && at < sizeof setup / sizeof setup[0]; at++)
         out(SERIAL + setup[at].offset, setup[at].value);
-    for (unsigned at = 0; at < ROWS * COLUMNS; at++)
-        screen[at] = WHITE | ' ';
-}
-
-static void scroll(void)
-{
-    for (unsigned at = 0; at < (ROWS - 1) * COLUMNS; at++)
-        screen[at] = screen[at + COLUMNS];
-    for (unsigned at = (ROWS - 1) * COLUMNS; at < ROWS * COLUMNS; at++)
-        screen[at] = WHITE | ' ';
-}
-
-static void put_on_screen(char c)
-{
-    if (c != '\n' && column < COLUMNS)
-        screen[row * COLUMNS + column++] = WHITE | (uint8_t)c;
-    if (c != '\n')
-        return;
-    column = 0;
-    if (++row == ROWS) {
-        scroll();
-        row--;
-    }
+    screen_open();
 }
 
 static void put(char c)
 {
-    put_on_screen(c);
+    screen_put(c);
     while (has_serial && (in(SERIAL + 5) & 0x20) == 0)
         pause_some(20);
     if (has_serial)

@@ -52,6 +52,11 @@ const char *second_word(const char *line);
 char *put_text(char *to, const char *text);
 char *put_number(char *to, uint64_t number, unsigned radix);
 
+/* screen.c, font.c */
+extern const uint8_t font[][8];
+void screen_open(void);
+void screen_put(char c);
+
 /* console.c */
 void console_open(void);
 void print(const char *text);
@@ -61,10 +66,12 @@ bool console_has_input(void);
 char console_read(void);
 
 /* boot.c */
+struct framebuffer { uint64_t address; uint32_t pitch, width, height; uint8_t bits, kind; };
 extern bool boot_resets, boot_serves;
 extern const char *boot_only, *boot_without;
 extern uint64_t boot_unit;
 void boot_read_options(void);
+const struct framebuffer *boot_framebuffer(void);
 
 /* interrupts.c */
 extern uint64_t settle;
@@ -109,7 +116,6 @@ void measure(void);
 /* cases.c */
 extern const char suite[];
 void run_all(void);
-
 
 /* serve.c */
 void serve(void);
