@@ -110,6 +110,8 @@ static uint64_t translated_back(const struct cpu *cpu, uint32_t msr, uint64_t va
 {
     if (msr == COUNTER)
         return script_time(value - base);
+    if (msr >= SINT0 && msr < SINT0 + 16 && value == MASKED_INSTEAD)
+        return MASKED;
     if ((msr == SIEFP || msr == SIMP) && value == cpu->pages[msr - SIEFP][1])
         return cpu->pages[msr - SIEFP][0];
     if (is_timer(msr) && msr % 2 == 1 && value == cpu->raw_count[(msr - STIMER0) / 2])

@@ -91,6 +91,7 @@ void processor_serve(struct cpu *self);
 uint64_t order(struct cpu *cpu, enum operation operation, uint32_t msr, uint64_t value);
 
 /* registers.c */
+enum { MASKED = 0x10000, MASKED_INSTEAD = 0x1001f };    /* a SINT after a reset; instead, where that raises #GP */
 bool access_register(struct cpu *self, uint32_t msr, uint64_t *value, bool is_write);
 void write_register(struct cpu *self, uint32_t msr, uint64_t value);
 void clean(struct cpu *self);

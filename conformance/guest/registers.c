@@ -59,10 +59,10 @@ static void restore_others(struct cpu *self)
     }
 }
 
-/* As after a reset. Some hypervisors raise #GP for vector 0, also of a masked source, and keep what was there. */
+/* Some hypervisors raise #GP for vector 0 of a masked source too, although a SINT has it after a reset. */
 static void mask_source(struct cpu *self, unsigned sint)
 {
-    uint64_t value = 0x10000, other = 0x1001f;
+    uint64_t value = MASKED, other = MASKED_INSTEAD;
     if (access_register(self, SINT0 + sint, &value, true))
         access_register(self, SINT0 + sint, &other, true);
 }

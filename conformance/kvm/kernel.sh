@@ -1,5 +1,7 @@
-# A Debian kernel for a virtual machine: sourced by conformance/kvm/run, conformance/guest/run and tests/kvm/linux, which
-# set $name (of the script, for its lines), $kernel (6.1 or 6.12) and $work (a folder).
+# A Debian kernel for a virtual machine: sourced by conformance/kvm/run, conformance/guest/run, conformance/guest/xen and
+# tests/kvm/linux, which set $name (of the script, for its lines), $kernel (6.1 or 6.12) and $work (a folder), and may
+# set $flavour: that for cloud machines cannot be the first domain of Xen.
+flavour=${flavour:-cloud-amd64}
 cache=${XDG_CACHE_HOME:-$HOME/.cache}/synicboard
 
 missing() {
@@ -23,15 +25,19 @@ find_kernel() {
     6.1) least=6.1.190 ;;
     6.12) least=6.12.111 ;;
     esac
-    package=$(apt-cache pkgnames "linux-image-$kernel." | grep -E '^linux-image-[0-9.]+(-[0-9]+|\+deb[0-9]+)?-cloud-amd64$' | sort -V | tail -n 1)
-    [ -n "$package" ] || missing "the package index has no kernel $kernel for cloud machines: apt-get update"
+    package=$(apt-cache pkgnames "linux-image-$kernel." | grep -E '^linux-image-[0-9.]+(-[0-9]+|\+deb[0-9]+)?-'"$flavour"'$' | sort -V | tail -n 1)
+    [ -n "$package" ] || missing "the package index has no kernel $kernel $flavour: apt-get update"
     version=$(apt-cache policy "$package" | sed -n 's/^ *Candidate: //p')
     dpkg --compare-versions "$version" ge "$least" || missing "kernel $kernel is $version, and $least is needed: apt-get update"
 }
 
-# Fetches it into the cache, if it is not there as the package index describes it.
 fetch_kernel() {
     find_kernel
+    fetch
+}
+
+# Fetches $package of $version into the cache as $file, if it is not there as the package index describes it.
+fetch() {
     file=$cache/${package}_$(echo "$version" | sed 's/:/%3a/')_amd64.deb
     sum=$(apt-cache show "$package=$version" | sed -n 's/^SHA256: //p' | head -n 1)
     mkdir -p "$cache"
