@@ -16,6 +16,8 @@ static synicboard_notice notices[SYNICBOARD_MOST_LIVE_NOTICES];
 static size_t notice_count;
 
 uint8_t shown[MOST][2][PAGE] __attribute__((aligned(PAGE)));
+bool is_tried;
+static bool has_expired;
 
 /* ---- The plain board, which is a peer ---- */
 
@@ -41,6 +43,7 @@ void peer_notice(const char *format, ...)
     va_start(words, format);
     vsnprintf(text, sizeof text, format, words);
     va_end(words);
+    has_expired |= strncmp(text, "expired", 7) == 0;
     synicboard_notice notice = { 0 };
     if (sscanf(text, "requested %u %x", &vp, &vector) == 2)
         notice = (synicboard_notice){ .kind = SYNICBOARD_NOTICE_REQUESTED, .vp = (uint8_t)vp, .vector = (uint8_t)vector };
@@ -152,8 +155,12 @@ static struct peer_reply performed(const synicboard_event *e)
 
 synicboard_live_reply synicboard_act_live(synicboard *held, const synicboard_event *event)
 {
+    uint64_t before = board.now;
     notice_count = 0;
+    has_expired = false;
     synicboard_live_reply live = { .reply = translated(performed(event)) };
+    bool is_later = board.now > before;
+    is_tried = event->kind == SYNICBOARD_TICK && !has_expired && (is_later || is_tried);
     show_pages();
     return live;
 }

@@ -7,8 +7,6 @@
 
 typedef unsigned __int128 wide;
 
-enum { RETRY = 10000 };                 /* a millisecond */
-
 /* ---- Queries ---- */
 
 /* By a take that is undone. */
@@ -96,17 +94,17 @@ bool synicboard_flag_page(const synicboard *held, uint8_t vp, const uint8_t **pa
     return true;
 }
 
-/* A timer that is late may wait for its buffer, so it is tried again after a while. */
 synicboard_next_tick synicboard_alarm(const synicboard *held)
 {
     synicboard_next_tick next = { false, UINT64_MAX };
-    for (unsigned vp = 0; vp < board.processors; vp++)
-        for (unsigned index = 0; index < TIMERS; index++) {
-            const struct timer *t = &board.vps[vp].timers[index];
-            wide deadline = t->deadline > board.now ? t->deadline : (wide)board.now + RETRY;
-            if (t->has_deadline && !board.vps[vp].suspended && deadline < next.moment)
-                next = (synicboard_next_tick){ true, (uint64_t)deadline };
-        }
+    for (unsigned at = 0; at < board.processors * TIMERS; at++) {
+        const struct processor *p = &board.vps[at / TIMERS];
+        const struct timer *t = &p->timers[at % TIMERS];
+        bool is_late = t->deadline <= board.now;
+        wide moment = is_late ? (wide)board.now + 1 : t->deadline;
+        if (t->has_deadline && !p->suspended && moment < next.moment && !(is_late && is_tried))
+            next = (synicboard_next_tick){ true, (uint64_t)moment };
+    }
     return next;
 }
 
