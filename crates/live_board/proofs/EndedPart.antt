@@ -60,6 +60,7 @@ joined s mid now p log log-mid log-now more event reply first after w one silent
           (sym one.notices);
       careful = λ shown. careful-append Sim more w.news log
           (subst (AreCareful Sim more) w.page (careful shown)) w.careful;
+      hidden = λ no. shows ∙ w.hidden no;
       shadow = shadow;
       others = λ j x low ne. others j x ne ∙ w.others j x low ne;
       count = count ∙ w.count;

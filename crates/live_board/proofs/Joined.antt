@@ -104,6 +104,7 @@ watched-then s mid now p k log log-mid log-now first second a b = record {
   page = b.page ∙ ap (λ l. b.news ++ l) a.page ∙ sym (append_assoc b.news a.news log);
   run = run;
   careful = careful-append k b.news a.news log (subst (λ l. AreCareful k b.news l) a.page b.careful) a.careful;
+  hidden = λ no. events ∙ (λ i. a.hidden no i ++ b.hidden (λ shown. no (shown-before s mid p k a.rest shown)) i);
   rest = b.rest ∙ ap (λ (t : State). record t { own = now.own; slots = now.slots }) a.rest;
   count = b.count ∙ a.count;
   others = λ j w low ne. b.others j w low ne ∙ a.others j w low ne;
@@ -137,6 +138,7 @@ renoted s now p log log-now ns other is w =
       page = w.page;
       run = w.run ∙ ap (λ x. (now, all_done (explained s p kind.Sim w.news log), x)) is;
       careful = w.careful;
+      hidden = w.hidden;
       rest = w.rest;
       count = w.count;
       others = w.others;

@@ -104,7 +104,7 @@ paid-one : (b : Bool) (p : ℕ) (old now : LiveModel) (notices : List Notice) �
     → (es : List Event) × IsEomIf b p es × (run_of old.board.state es ≡ (now.board.state, all_done es, notices))
 unfolding run_of
 paid-one false p old now notices (same, none) = ([], refl, (λ i. ((sym same i).board.state, [], sym none i)))
-paid-one true p old now notices (h, _, _) =
+paid-one true p old now notices (h, _, _, _) =
     let stores : List Event = explained old.board.state h.vp h.kind h.news (log_of old h.vp h.kind) in (
       stores ++ eom_by p ∷ [],
       (stores, looks-stores old.board.state h.vp h.kind h.news (log_of old h.vp h.kind), refl),

@@ -30,6 +30,7 @@ unwatched s p k log =
       page = refl;
       run = refl;
       careful = tt;
+      hidden = λ _. refl;
       rest = refl;
       count = refl;
       others = λ j w _ _. refl;

@@ -112,6 +112,8 @@ pub record IsLive (old : LiveModel) (event : Event) (now : LiveModel) (reply : R
   pub run : run_of old.board.state (explained old.board.state vp kind news (log_of old vp kind) ++ event ∷ [])
       ≡ (now.board.state, all_done (explained old.board.state vp kind news (log_of old vp kind)) ++ reply ∷ [], notices)
   pub careful : IsShown old.board.state vp kind → AreCareful kind news (log_of old vp kind)
+  pub hidden : (IsShown old.board.state vp kind → ⊥)
+      → explained old.board.state vp kind news (log_of old vp kind) ≡ []
 
 -- a live board performs an event without an access to a live page
 pub record IsQuietly (old : LiveModel) (event : Event) (now : LiveModel) (reply : Reply)

@@ -84,6 +84,7 @@ pub record IsWatched (s : State) (p : ℕ) (k : Kind) (log : List Access) (now :
   pub page : log_now ≡ news ++ log
   pub run : run_of s (explained s p k news log) ≡ (now, all_done (explained s p k news log), notices)
   pub careful : AreCareful k news log
+  pub hidden : (IsShown s p k → ⊥) → explained s p k news log ≡ []
   pub rest : now ≡ record s { own = now.own; slots = now.slots }
   pub count : length now.own ≡ length s.own
   pub others : LeavesOthers s (overlay_of p k) now
@@ -197,6 +198,7 @@ pub record IsPart (s : State) (p : ℕ) (k : Kind) (log : List Access) (event : 
   pub run : run_of s (explained s p k news log ++ event ∷ [])
       ≡ (now, all_done (explained s p k news log) ++ reply ∷ [], notices)
   pub careful : IsShown s p k → AreCareful k news log
+  pub hidden : (IsShown s p k → ⊥) → explained s p k news log ≡ []
   pub shadow : IsShadow now (overlay_of p k) log_now
   pub others : LeavesOthers s (overlay_of p k) now
   pub count : length now.own ≡ length s.own
