@@ -5,11 +5,25 @@ use Rattle.law_slots.specs.Pages.{flicker, AFlickerIsMissed, AreLaxActs, opened}
 may : AreLaxActs 0 opened flicker
 may = (
   (λ e. absurd (cc), ((refl, tt), ((tt, λ e. refl), tt)), λ e. absurd (cc)),
-  ((λ e. absurd (cc), ((refl, tt), ((refl, tt), tt)), λ e. inl (refl, refl, refl)),
-  (refl, (refl, (refl, (refl, (
-    (λ e. absurd (cc), ((refl, tt), ((tt, λ e. refl), (refl, ((tt, λ e. refl), tt)))), λ e. inr (inr (refl, refl, refl))),
-    tt,
-  )))))),
+  (
+    (λ e. absurd (cc), ((refl, tt), ((refl, tt), tt)), λ e. inl (refl, refl, refl)),
+    (
+      refl,
+      (
+        refl,
+        (
+          refl,
+          (
+            refl,
+            (
+              (λ e. absurd (cc), ((refl, tt), ((tt, λ e. refl), (refl, ((tt, λ e. refl), tt)))), λ e. inr (inr (refl, refl, refl))),
+              tt,
+            ),
+          ),
+        ),
+      ),
+    ),
+  ),
 )
 
 pub a-flicker-is-missed : AFlickerIsMissed

@@ -113,15 +113,15 @@ host-moves (t ∷ []) s e some storing h =
     inr (
       fills 1,
       ap (λ h. (host_is h storing && is_any s.queue)
-      && (true && (if is_any (rest s.queue) then false else true))) h
-      ∙ ap (λ q. is_any q && (if is_any (rest q) then false else true)) e,
+          && (true && (if is_any (rest s.queue) then false else true))) h
+          ∙ ap (λ q. is_any q && (if is_any (rest q) then false else true)) e,
     )
 host-moves (t ∷ u ∷ ts) s e some storing h =
     inr (
       fills (2 ^ 40 + 1),
       ap (λ h. (host_is h storing && is_any s.queue)
-      && (true && (if is_any (rest s.queue) then true else false))) h
-      ∙ ap (λ q. is_any q && (if is_any (rest q) then true else false)) e,
+          && (true && (if is_any (rest s.queue) then true else false))) h
+          ∙ ap (λ q. is_any q && (if is_any (rest q) then true else false)) e,
     )
 
 either : (s : Slot) → (host_is s.host idle ≡ true → can_go_on careful s ≡ true)

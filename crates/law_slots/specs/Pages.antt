@@ -183,11 +183,11 @@ call moves waits = calls (record { ends = false; pays = false; moves = moves; wa
 abbrev pub flicker : List Act
 flicker =
     call (touches (Load 0 0) ∷ touches (Store 0 1) ∷ []) false
-        ∷ call (touches (Load 0 1) ∷ touches (FetchOr 0 pending_mask 1) ∷ []) true
-        ∷ alone takes ∷ alone clears ∷ alone drains ∷ alone fences
-        ∷ call (
-          touches (Load 0 pending_mask) ∷ touches (Store 0 0) ∷ sees ∷ touches (Store 0 pending_mask) ∷ []
-        ) true ∷ []
+    ∷ call (touches (Load 0 1) ∷ touches (FetchOr 0 pending_mask 1) ∷ []) true
+    ∷ alone takes ∷ alone clears ∷ alone drains ∷ alone fences
+    ∷ call (
+    touches (Load 0 pending_mask) ∷ touches (Store 0 0) ∷ sees ∷ touches (Store 0 pending_mask) ∷ []
+    ) true ∷ []
 
 pub record AFlickerIsMissed : Type 0 where
   pub may : AreLaxActs 0 opened flicker

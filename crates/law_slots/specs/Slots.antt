@@ -297,7 +297,7 @@ EachMessageIsPlaced =
     → are_steps careful (led_to careful start earlier) later ≡ true → are_calm later ≡ true
     → 10 * (n + 1) < rounds later
     → is_in (slice_index_or (led_to careful start earlier).queue n 0)
-        (led_to careful (led_to careful start earlier) later).placed ≡ true
+    (led_to careful (led_to careful start earlier) later).placed ≡ true
 
 -- some step that brings the queue on may come next
 abbrev pub can_go_on : Precautions → Slot → Bool

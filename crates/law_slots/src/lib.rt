@@ -1,6 +1,7 @@
 //! What holds in a whole run of a message slot of a live page: laws, each a function with an empty
 //! body whose clause is the theorem.
 #![tactic(auto)]
+
 ghost use Rattle.law_slots.specs.Slots.{NoMessageWaitsUnseen, AMessageIsFollowed, EachMessageLeaves, EachMessageIsPlaced, AQueueIsNeverStuck, EachPrecautionIsNeeded, AllArePlaced};
 ghost use Rattle.law_slots.specs.Pages.{NoMessageWaitsUnseenInMemory, AFlickerIsMissed};
 ghost use Rattle.law_slots.specs.Rounds.{AFewRoundsPlace, AnEomFills};

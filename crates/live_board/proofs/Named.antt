@@ -191,6 +191,7 @@ live-named event reply notices = record {
     names = names;
     run = h.run;
     careful = h.careful;
+    within = h.within;
     hidden = h.hidden;
   };
 }

@@ -67,6 +67,7 @@ probing-start s p log words notices none shadow count are = record {
     page = refl;
     run = ap (λ (ns : List Notice). (s, [], ns)) (sym none);
     careful = tt;
+    within = tt;
     hidden = λ _. refl;
     rest = refl;
     count = refl;

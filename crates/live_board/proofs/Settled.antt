@@ -30,6 +30,7 @@ unwatched s p k log =
       page = refl;
       run = refl;
       careful = tt;
+      within = tt;
       hidden = λ _. refl;
       rest = refl;
       count = refl;

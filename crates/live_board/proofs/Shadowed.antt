@@ -104,6 +104,7 @@ part-live old now pages p k event log-now reply notices part = record {
   names = refl;
   run = part.run;
   careful = part.careful;
+  within = part.within;
   hidden = part.hidden;
 }
 
@@ -121,6 +122,7 @@ untouched-live old now pages event reply notices is = record {
   run = ap (λ (o : Outcome). (o.0, o.1 ∷ [], o.2 ++ [])) (sym is)
       ∙ ap (λ (ns : List Notice). (now.state, reply ∷ [], ns)) (append-nil notices);
   careful = λ _. tt;
+  within = tt;
   hidden = λ _. refl;
 }
 
@@ -135,6 +137,7 @@ quiet-live old now event reply notices quiet =
       names = quiet.names;
       run = h.run;
       careful = h.careful;
+      within = h.within;
       hidden = h.hidden;
     }
 

@@ -205,6 +205,7 @@ begins-none s p event log before direct = record {
     page = refl;
     run = refl;
     careful = tt;
+    within = tt;
     hidden = λ _. refl;
     rest = refl;
     count = refl;

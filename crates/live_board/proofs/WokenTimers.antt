@@ -317,7 +317,7 @@ written-of : (s now : State) (p number value : ℕ) (looks log marks rest : List
     (notices : List Notice) → IsSound s → p < processors s → is_timer_write (Write p number value) ≡ true
     → IsShown s p Sim → AreLooks 16 looks
     → run_of s (explained s p Sim looks log ++ Write p number value ∷ explained_after s p marks rest)
-        ≡ (now, replies, notices)
+    ≡ (now, replies, notices)
     → IsWritten s p number value looks log marks rest now
 written-of s now p number value looks log marks rest replies notices sound on timer shown are run = record {
   steps = steps;
@@ -351,7 +351,7 @@ timed-written : (old now : LiveModel) (p number value : ℕ) (reply : Reply) (ow
     → IsSound old.board.state → p < processors old.board.state → is_timer_write (Write p number value) ≡ true
     → IsShown old.board.state p Sim → (t : IsTimed p old (Write p number value) now reply owed notices)
     → IsWritten old.board.state p number value t.looks (log_of old p Sim) t.marks
-        (t.stores ++ (t.looks ++ log_of old p Sim)) now.board.state
+    (t.stores ++ (t.looks ++ log_of old p Sim)) now.board.state
 timed-written old now p number value reply owed notices sound on timer shown t =
     written-of old.board.state now.board.state p number value t.looks (log_of old p Sim) t.marks
     (t.stores ++ (t.looks ++ log_of old p Sim)) _ notices sound on timer shown (t.are.shown shown) t.run
@@ -365,8 +365,7 @@ timed-shown old now p number value reply owed notices sound on timer shown t =
     let w = timed-written old now p number value reply owed notices sound on timer shown t in
     let held = held-beside old.board.state p number value t.looks (log_of old p Sim) t.marks
     (t.stores ++ (t.looks ++ log_of old p Sim)) now.board.state w t.are.marked 16
-    (no-sixteen t.marks t.are.marked) in
-    (
+    (no-sixteen t.marks t.are.marked) in (
       subst (λ n. p < n) (sym (ap processors held.rest)) w.end_on,
       rest-shown w.steps.end now.board.state p Sim held.rest w.end_shown,
     )
