@@ -228,6 +228,7 @@ ticked-named moment reply owed notices = record {
     idle = h.idle;
     logs = h.logs;
     flags = h.flags;
+    size = h.size;
     names = names;
     run = h.run;
     owes = h.owes;

@@ -335,6 +335,7 @@ pub record IsTicked (old : LiveModel) (moment : ℕ) (now : LiveModel) (reply : 
   pub logs : (p : ℕ) → p < processors old.board.state
       → log_of now p kind.Sim ≡ marks p ++ (stores p ++ (looks p ++ log_of old p kind.Sim))
   pub flags : (p : ℕ) → log_of now p kind.Sief ≡ log_of old p kind.Sief
+  pub size : length now.pages ≡ length old.pages
   pub names : now.names ≡ old.names
   pub run : run_of old.board.state
       (looked_from old.board.state old.pages looks 0 (processors old.board.state)
