@@ -47,7 +47,7 @@ may_touch s event q = touches s event q
 -- all that processor q has stays, no notice names it, and no word of its live pages is accessed
 pub record IsLeftAlone (q : Processor) (old now : LiveModel) (notices : List Notice) : Type 0 where
   pub state : Keeps q old.board.state now.board.state
-  pub notices : All (λ notice. processor_of notice ≢ q) notices
+  pub silent : All (λ notice. processor_of notice ≢ q) notices
   pub pages : (kind : Kind) → log_of now q kind ≡ log_of old q kind
   pub count : length now.pages ≡ length old.pages
 

@@ -16,7 +16,11 @@ may = (
           (
             refl,
             (
-              (λ e. absurd (cc), ((refl, tt), ((tt, λ e. refl), (refl, ((tt, λ e. refl), tt)))), λ e. inr (inr (refl, refl, refl))),
+              (
+                λ e. absurd (cc),
+                ((refl, tt), ((tt, λ e. refl), (refl, ((tt, λ e. refl), tt)))),
+                λ e. inr (inr (refl, refl, refl)),
+              ),
               tt,
             ),
           ),

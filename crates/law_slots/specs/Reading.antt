@@ -48,4 +48,5 @@ NoMessageIsTorn =
     → (ends ≡ true → guest_is (acted_by x opened acts).page.guest ending ≡ true)
     → AreMoves x (entered (acted_by x opened acts).page ends) moves
     → guest_is (amid x acts ends moves).guest taken ≡ true → AreMeanwhile x (amid x acts ends moves) meanwhile
-    → IsSameMessage x (memory (amid x acts ends moves).turns) (memory (moved_by x (amid x acts ends moves) meanwhile).turns)
+    → IsSameMessage x (memory (amid x acts ends moves).turns)
+        (memory (moved_by x (amid x acts ends moves) meanwhile).turns)

@@ -254,7 +254,7 @@ ahead xs None = None
 ahead [] (Some n) = Some n
 ahead (x ∷ xs) (Some n) = ahead xs (ahead_after x n)
 
--- a message that is not in the queue any more was placed, as the last one, or withdrawn; and otherwise it is the same one
+-- a message that is not in the queue any more was placed, as the last one, or withdrawn; and otherwise it is the same
 abbrev pub Follows : Slot → ℕ → Step → Slot → Type 0
 Follows s n x now =
     MatchOption (ahead_after x n)
@@ -317,7 +317,8 @@ can_access m s _ = false
 abbrev pub AQueueIsNeverStuck : Type 0
 AQueueIsNeverStuck =
     (steps : List Step) → are_steps careful start steps ≡ true → is_any (led_to careful start steps).queue ≡ true
-    → ((host_is (led_to careful start steps).host idle ≡ true) × (can_go_on careful (led_to careful start steps) ≡ true))
+    → ((host_is (led_to careful start steps).host idle ≡ true)
+    × (can_go_on careful (led_to careful start steps) ≡ true))
     ⊎ ((x : Step) × (can_access careful (led_to careful start steps) x ≡ true))
 
 -- at rest, a message is queued, and it stays so unless another call comes: neither guest nor host will move
@@ -364,11 +365,11 @@ pub record EachPrecautionIsNeeded : Type 0 where
   pub hasty : LeadsToStuck hasty hasty_steps
   pub wide : LeadsToStuck wide wide_steps
 
--- a run with a late mark that finds the slot empty, whose EOM is paid, and then a round of the guest: three messages are
--- placed in their order
+-- a run with a late mark that finds the slot empty, whose EOM is paid, and then a round of the guest: three messages
+-- are placed in their order
 abbrev pub full_steps : List Step
-full_steps = forgetful_steps ++ pays ∷ looks ∷ copies ∷ fills 1 ∷ posts 2 ∷ looks ∷ marks ∷ takes ∷ clears ∷ drains ∷ fences
-    ∷ sees ∷ ends ∷ looks ∷ copies ∷ fills 1 ∷ []
+full_steps = forgetful_steps ++ pays ∷ looks ∷ copies ∷ fills 1 ∷ posts 2 ∷ looks ∷ marks ∷ takes ∷ clears ∷ drains
+    ∷ fences ∷ sees ∷ ends ∷ looks ∷ copies ∷ fills 1 ∷ []
 
 abbrev pub unpaid : Slot → Slot
 unpaid s = record s { owed = false }

@@ -51,7 +51,8 @@ joined : (s mid now : State) (p : ℕ) (log log-mid log-now more : List Access) 
     → log-now ≡ more ++ log-mid
     → IsShadow now (2 * p) log-now → ((j x : ℕ) → j ≢ 2 * p → word_of now j x ≡ word_of mid j x)
     → length now.own ≡ length mid.own → IsPart s p Sim log event now log-now reply after
-joined s mid now p log log-mid log-now more event reply first after w one silent within careful page shadow others count =
+joined s mid now p log log-mid log-now more event reply first after w one silent within careful page shadow others
+    count =
     record {
       news = more ++ w.news;
       page = page ∙ ap (λ l. more ++ l) w.page ∙ sym (append_assoc more w.news log);
@@ -154,7 +155,8 @@ pub part-ended-hidden : (s now : State) (p : ℕ) (log log-now : List Access) (w
 part-ended-hidden s now p log log-now words event reply before after empty hidden one e pub-now =
     joined s s now p log log log-now pub-now.news event reply [] after (not-watched s p log)
     (subst (λ ns. IsStep s event now reply ns after) empty one)
-    (stores-show s p Sim pub-now.news _ pub-now.stores) (stores-within pub-now.news pub-now.stores) (λ shown. absurd (hidden shown)) pub-now.page
+    (stores-show s p Sim pub-now.news _ pub-now.stores) (stores-within pub-now.news pub-now.stores)
+    (λ shown. absurd (hidden shown)) pub-now.page
     (λ x low. pub-now.done x low (omega (arith, low)) (inl refl)) e.others e.count
 
 pub has-probed : (s mid now : State) (p : ℕ) (log log-mid log-now : List Access) (words : List ℕ)

@@ -431,7 +431,7 @@ eoms-fit owed (suc n) es (before, after, is, first, last) = subst (All PayloadFi
         (All-append PayloadFits stores (eom_by n ∷ []) (stores-fit stores h)
         (All-cons PayloadFits (eom_by n) [] tt (All-nil PayloadFits)))
 
-between-fits : (calls : List Call) (events : List Event) (replies : List Reply)
+pub between-fits : (calls : List Call) (events : List Event) (replies : List Reply)
     → All (λ (c : Call). PayloadFits c.event) calls → HasBetween calls events replies → All PayloadFits events
 between-fits [] events replies fits (none, _) = subst (All PayloadFits) (sym none) (All-nil PayloadFits)
 between-fits (c ∷ calls) events replies fits (inl (refused, rest)) =

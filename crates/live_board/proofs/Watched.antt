@@ -34,7 +34,8 @@ mark-shows : (s : State) (p : ℕ) (k : Kind) (w mask found : ℕ) (log : List A
 mark-shows s p k w mask found log is = ap (λ n. if found == n then [] else store_of s p k w found ∷ []) is
 
 watched-by : (s : State) (p : ℕ) (k : Kind) (w found : ℕ) (log now-log news : List Access) (now : State)
-    (notices : List Notice) → explained s p k news log ≡ found_stores s p k w found → AreCareful k news log → FindInPage news
+    (notices : List Notice) → explained s p k news log ≡ found_stores s p k w found → AreCareful k news log
+    → FindInPage news
     → IsShown s p k → now-log ≡ news ++ log
     → IsPassed s p k w found now notices → HasWord s (overlay_of p k) w found now
     → IsWatched s p k log now now-log notices

@@ -111,7 +111,7 @@ tick-goes : (s : State) (moment p i : ℕ) → IsSound s → i < 16 → Goes s p
 unfolding step
 tick-goes s moment p i h under = goes-ticked (processors s) s moment p i (kept_from_sound s h) under
 
-tick-grows : (s : State) (moment : ℕ) → IsSound s → Grows (processors s) Any s (step s (Tick moment)).0
+pub tick-grows : (s : State) (moment : ℕ) → IsSound s → Grows (processors s) Any s (step s (Tick moment)).0
 unfolding step
 tick-grows s moment h = grows-ticked (processors s) s moment (kept_from_sound s h)
 
@@ -157,7 +157,7 @@ one-or false false = inl (λ no. absurd (cc))
 one-or true false = inr (λ h. let e : false ≡ true = h refl in cc)
 
 -- whether those of a processor are
-direct-or : (s : State) (p moment : ℕ) → AreDueDirect s p moment ⊎ (AreDueDirect s p moment → ⊥)
+pub direct-or : (s : State) (p moment : ℕ) → AreDueDirect s p moment ⊎ (AreDueDirect s p moment → ⊥)
 direct-or s p moment = by (one 0) (one 1) (one 2) (one 3)
   where
     one : (i : ℕ) → IsDirectIfDue s p moment i ⊎ (IsDirectIfDue s p moment i → ⊥)

@@ -4,4 +4,5 @@ use Rattle.live_board.proofs.passing.look.Goals as goal
 
 pub returns-clause-look : goal.returns-clause-look
 returns-clause-look c =
-    look-is _ _ _ _ _ _ _ _ _ _ c.requires.word c.requires.shown c.requires.known (logged c.load-found.ensures) c.pass.ensures
+    look-is _ _ _ _ _ _ _ _ _ _ c.requires.word c.requires.shown c.requires.known (logged c.load-found.ensures)
+    c.pass.ensures

@@ -22,7 +22,8 @@ returns c =
     let only : AccessesOnlyAt c.args.vp Sim c.args.self.now c.end_event.new.self =
     λ j other. elim (eom-cases s c.args.vp 0x40000084 event to) [
       | inl on ↦ c.end_event.ensures.only c.args.vp (eom-there s c.args.vp 0x40000084 event to refl on) j other
-      | inr nowhere ↦ ap (λ (pages : List (List Access)). slice_index_or pages j []) (c.end_event.ensures.nowhere nowhere)
+      | inr nowhere ↦
+          ap (λ (ps : List (List Access)). slice_index_or ps j []) (c.end_event.ensures.nowhere nowhere)
     ] in (
       c.end_event.ensures.live,
       (λ on. c.end_event.ensures.probed c.args.vp (eom-there s c.args.vp 0x40000084 event to refl on)),
