@@ -40,6 +40,7 @@ use Rattle.live_board.proofs.Runs.{run-explained, between-fits}
 use Rattle.live_board.proofs.TimedPart.{shown-same}
 use Rattle.live_board.proofs.WokenTicks.{direct-or, tick-grows}
 use Rattle.law_processors.specs.Isolation.{Untouched, is_at, is_overlay_of, touches}
+use Rattle.law_processors.proofs.Isolating.{four-clear}
 use Rattle.law_live.specs.Alone.{IsLeftAlone, IsReady, CallsLeaveAlone, RunsLeaveAlone, AreCallsApart, has_due_timer, is_page_register, may_touch}
 use Rattle.law_live.proofs.Calls.{alone-run, alone-same, alone-then, alone-quiet, alone-live, alone-timed, only-beside}
 use Rattle.law_live.proofs.Pages.{alone-reset, alone-hiding, apart}
@@ -101,14 +102,6 @@ alone-timed-paid p q number value old now reply owed notices sound size ne on ti
     subst (IsLeftAlone q old now) (sym h.joined) (alone-then q old h.mid now h.first h.last first last.alone)
 
 -- a tick at which no timer of the processor is due
-four-clear : (a b c d : Bool) → (a || b || c || d) ≡ false
-    → (a ≡ false) × (b ≡ false) × (c ≡ false) × (d ≡ false)
-four-clear true b c d e = absurd (cc)
-four-clear false true c d e = absurd (cc)
-four-clear false false true d e = absurd (cc)
-four-clear false false false true e = absurd (cc)
-four-clear false false false false e = (refl, refl, refl, refl)
-
 four-or : (a b c d : Bool) → a ≡ false → b ≡ false → c ≡ false → d ≡ false → (a || b || c || d) ≡ false
 four-or a b c d e f g h = grind arith
 

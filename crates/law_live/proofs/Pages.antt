@@ -86,7 +86,7 @@ alone-settled p q old now notices sound ne t =
     (untouched-append ea eb s q first.0 last.0) t.run (λ kind. both-beside p q kind old now _ _ t.pages ne)
     (both-count p old now _ _ t.pages)
 
--- what a settled board is: sound, and the same but for own pages and tickets of slots
+-- what a settled board is: sound, and the same except for own pages and tickets of slots
 pub record IsLooked (old now : LiveModel) : Type 0 where
   pub sound : IsSound now.board.state
   pub rest : Rest old.board.state now.board.state

@@ -61,7 +61,7 @@ marked-in s p (access.FetchOr w mask found ∷ marks) log (i, low, at, is, more)
 pub not-same : (p q : ℕ) → p ≢ q → (p == q) ≡ false
 not-same p q ne = grind (arith, nat_tests)
 
--- such a store touches nobody else
+-- such a store touches no other processor
 elsewhere : (s t : State) (p q : ℕ) (k : Kind) (w value : ℕ) → number_at t p k ≡ number_at s p k → IsShown t p k
     → p ≢ q → w < 512 → touches t (store_of s p k w value) q ≡ false
 elsewhere s t p q k w value number shown ne small =

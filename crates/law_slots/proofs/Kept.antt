@@ -3,9 +3,9 @@ use Rattle.std.proofs.Common.{◌≡◌, Bool, true, false, arith}
 use Rattle.std.specs.Prelude.{not, ◌&&◌, ◌||◌, if◌then◌else◌}
 use Rattle.law_slots.specs.Slots.{HostAt, GuestAt, host_is, guest_is, idle, looking, marking, late_looking, late_marking, filling, storing, resting, taken, cleared, fenced, ending, careful, after_mark, owed_after_mark, after_look}
 
--- a store in the buffer is that of a guest that clears an occupied slot; a slot that the guest reads or the host fills
--- stays as it is; a call goes on only while a message is queued; and while the host rests and a message is queued, an
--- occupied slot is marked, and an empty one is one whose guest will find the mark, or an EOM comes
+-- a store in the buffer is that of a guest that clears an occupied slot; a slot that the guest reads or the host
+-- fills stays unchanged; a call continues only while a message is queued; and while the host rests and a message is
+-- queued, an occupied slot is marked, and an empty one is one whose guest will find the mark, or an EOM comes
 abbrev pub kept : Bool → Bool → Bool → Bool → HostAt → GuestAt → Bool → Bool
 kept o p b q h g w =
     (((not b || (o && guest_is g cleared))
@@ -106,7 +106,7 @@ pub seen : (o p b q : Bool) (h : HostAt) (g : GuestAt) (w : Bool) → kept o p b
     ≡ false
 seen o p b q h g w k = grind arith
 
--- between calls the guest can go on, or an EOM is owed
+-- between calls the guest can continue, or an EOM is owed
 pub goes-on : (o p b q : Bool) (h : HostAt) (g : GuestAt) (w : Bool) → kept o p b q h g w ≡ true
     → host_is h idle ≡ true → q ≡ true
     → (((guest_is g resting && o) && not b) || guest_is g taken || b || (guest_is g cleared && not (true && b))

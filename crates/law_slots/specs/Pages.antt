@@ -1,4 +1,4 @@
--- A whole run of one message slot in the words that contracts speak of: the log of the host's accesses to a page, the
+-- A whole run of one message slot in the words that contracts speak of: the host's log of accesses to a page, the
 -- history of the page, and what each call leaves.
 use Rattle.std.specs.Prelude.{◌≡◌, ◌⊎◌, ℕ, ◌-◌, ◌==◌, Bool, true, false, not, ◌&&◌, ◌||◌, List, [], ◌∷◌, ◌++◌, if◌then◌else◌}
 use Rattle.live_pages.specs.Slot.{known, type_of, is_pending, pending_mask}

@@ -1,4 +1,4 @@
--- A guest that reads its message while the host goes on (TLFS, "SIM Page"), on a processor that keeps loads in their
+-- A guest that reads its message while the host continues (TLFS, "SIM Page"), on a processor that keeps loads in their
 -- order (x86-TSO): each of its loads is of the memory that a history leaves.
 use Rattle.std.specs.Prelude.{◌≡◌, ◌≢◌, ℕ, ◌+◌, ◌&&◌, Bool, true, false, nat_le, nat_lt, List, [], ◌∷◌}
 use Rattle.std.specs.Int.{bit_at}
@@ -35,13 +35,13 @@ AreMeanwhile x s (m ∷ ms) = MayMeanwhile x s m × AreMeanwhile x (moved x s m)
 abbrev pub amid : ℕ → List Act → Bool → List Move → PageState
 amid x acts ends moves = moved_by x (entered (acted_by x opened acts).page ends) moves
 
--- the words of a slot are the same, but for MessagePending
+-- the words of a slot are the same, except for MessagePending
 pub record IsSameMessage (x : ℕ) (before after : ℕ → ℕ) : Type 0 where
   pub payload : (w : ℕ) → is_in x w ≡ true → w ≢ x → after w ≡ before w
   pub header : (b : ℕ) → b ≢ 40 → bit_at (after x) b ≡ bit_at (before x) b
 
--- From the load that finds a type in the header until the guest empties its slot the message stays as it is, whatever
--- the host does: so all its loads are of one message
+-- From the load that finds a type in the header until the guest empties its slot the message stays unchanged,
+-- whatever the host does: so all its loads are of one message
 abbrev pub NoMessageIsTorn : Type 0
 NoMessageIsTorn =
     (x : ℕ) (acts : List Act) (ends : Bool) (moves meanwhile : List Move) → AreActs x opened acts

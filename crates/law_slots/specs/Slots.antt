@@ -130,7 +130,7 @@ may m s ends = guest_is s.guest ending && host_is s.host idle
 may m s asks = host_is s.host idle
 may m s pays = s.owed && host_is s.host idle
 
--- where the host is after it was told of an EOM: it looks if a message waits
+-- where the host is after an EOM: it looks if a message waits
 abbrev pub after_eom : List ℕ → HostAt
 after_eom queue = if is_any queue then looking else idle
 
@@ -204,7 +204,7 @@ is_attended s =
     || (guest_is s.guest fenced && is_pending s.header)
     || guest_is s.guest ending || s.owed
 
--- no call is under way, a message is queued, and nobody will ask for it
+-- no call is under way, a message is queued, and neither guest nor host will ask for it
 abbrev pub is_unseen : Slot → Bool
 is_unseen s = (host_is s.host idle && is_any s.queue) && not (is_attended s)
 
@@ -313,7 +313,7 @@ can_access m s copies = may m s copies
 can_access m s (fills w) = may m s (fills w)
 can_access m s _ = false
 
--- While a message is queued, the host can go on with its call, and between calls the guest can, or an EOM is owed
+-- While a message is queued, the host can continue its call, and between calls the guest can, or an EOM is owed
 abbrev pub AQueueIsNeverStuck : Type 0
 AQueueIsNeverStuck =
     (steps : List Step) → are_steps careful start steps ≡ true → is_any (led_to careful start steps).queue ≡ true

@@ -68,7 +68,7 @@ pub fn a_run_places_all()
 {}
 
 /// While a guest reads its message, from the load that finds a type in the header until it empties the slot,
-/// no word of the message changes but for MessagePending: if the host stores into the slot only while it
+/// no word of the message changes except for MessagePending: if the host stores into the slot only while it
 /// knows the slot to be empty, and others do not write there. So no message is torn, in whatever order the
 /// guest loads its words.
 pub fn no_message_is_torn()
