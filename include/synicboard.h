@@ -50,6 +50,11 @@ extern "C" {
 #define SYNICBOARD_VERSION_MINOR 0
 #define SYNICBOARD_VERSION_PATCH 0
 
+/* The version as one number, 10000 * major + 100 * minor + patch. The call gives that of the library which runs. */
+#define SYNICBOARD_VERSION \
+    (10000 * SYNICBOARD_VERSION_MAJOR + 100 * SYNICBOARD_VERSION_MINOR + SYNICBOARD_VERSION_PATCH)
+uint32_t synicboard_version(void);
+
 /* A handle of a board. */
 typedef struct synicboard {
     void *at;
@@ -79,6 +84,12 @@ enum {
     SYNICBOARD_IS_LIVE = 14,            /* the board has live pages, and the call serves only others */
     SYNICBOARD_NOT_LIVE = 15            /* the board has no live pages */
 };
+
+/* What an outcome, a refusal, or the kind of a notice means, in words: for the first two those of the comments here.
+ * Null if it is none. */
+const char *synicboard_outcome_text(uint8_t outcome);
+const char *synicboard_refusal_text(uint8_t refusal);
+const char *synicboard_notice_text(uint8_t kind);
 
 /* Opens a board at time 0. The first message that it accepts gets the ticket `first_ticket`. Allocates
  * all memory that the events of this board need.

@@ -8,7 +8,7 @@ enum { MOST_ENTRY = 535 };      /* bytes of the two lines of an event and its re
 static FILE *file;
 static uint64_t entries;
 
-/* docs/FORMATS.md, "Trace": a board that is opened as sparse begins a trace of format 4, and an image one of format 3. */
+/* docs/FORMATS.md, "Trace": a guest may send interrupts, so the trace is of format 5, after a board line or an image. */
 void trace_begin(const void *image, size_t length)
 {
     if (vm.trace == NULL)
@@ -16,9 +16,9 @@ void trace_begin(const void *image, size_t length)
     if ((file = fopen(vm.trace, "w")) == NULL)
         fail(vm.trace);
     if (image == NULL)
-        fprintf(file, "trace 4\nboard %u sparse 0\n", vm.vps);
+        fprintf(file, "trace 5\nboard %u sparse 0\n", vm.vps);
     else
-        fprintf(file, "trace 3\n%.*s", (int)length, (const char *)image);
+        fprintf(file, "trace 5\n%.*s", (int)length, (const char *)image);
 }
 
 /* All are the events of one actor: who holds the lock performs them. */

@@ -2,7 +2,7 @@
 
 use crate::notice::{Room, ROOM};
 use crate::{
-    beyond_the_header, sys, Changes, Event, Line, Moment, Notices, Owner, Owners, PortShape, Reply, Ticket,
+    beyond_the_header, same_library, sys, Changes, Event, Line, Moment, Notices, Owner, Owners, PortShape, Reply, Ticket,
     TimerId, Vector, View, Vp, WideChanges, WideView,
 };
 use core::cell::UnsafeCell;
@@ -223,6 +223,7 @@ impl Board {
     /// [`OpenFault::BadSize`] if a size is out of range, [`OpenFault::Memory`] if an allocation
     /// fails.
     pub fn open(processors: u8, pages: u8, first_ticket: Ticket) -> Result<Board, OpenFault> {
+        same_library();
         let handle = UnsafeCell::new(sys::SYNICBOARD_CLOSED);
         let board = Board { handle, room: Room::new(), processors, pages };
         OpenFault::judged(ask!(board, synicboard_open, processors, pages, first_ticket))?;
@@ -249,6 +250,7 @@ impl Board {
     ///
     /// [`OpenFault::BadSize`] if the size is out of range, [`OpenFault::Memory`] if an allocation fails.
     pub fn open_sparse(processors: u8, first_ticket: Ticket) -> Result<Board, OpenFault> {
+        same_library();
         let handle = UnsafeCell::new(sys::SYNICBOARD_CLOSED);
         let board = Board { handle, room: Room::new(), processors, pages: 0 };
         OpenFault::judged(ask!(board, synicboard_open_sparse, processors, first_ticket))?;
@@ -274,6 +276,7 @@ impl Board {
     /// [`RestoreFault::WrongLine`] if the text is no image, [`RestoreFault::Memory`] if an allocation
     /// fails, [`RestoreFault::TooLong`] for a text of more than 1 GiB.
     pub fn restore(image: &[u8]) -> Result<Board, RestoreFault> {
+        same_library();
         let handle = UnsafeCell::new(sys::SYNICBOARD_CLOSED);
         let mut board = Board { handle, room: Room::new(), processors: 0, pages: 0 };
         let end = ask!(board, synicboard_restore, image.as_ptr(), image.len());

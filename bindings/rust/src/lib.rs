@@ -50,6 +50,15 @@ pub use text::{check, format_entry, replay, End, FormatFault, Verdict};
 pub use tsc::TscPage;
 pub use view::{Changes, Owners, View, WideChanges, WideView};
 
+/// Panics if the library that runs is of another major version than this crate, or older: its structs may differ.
+fn same_library() {
+    let ours = 10_000 * sys::SYNICBOARD_VERSION_MAJOR + 100 * sys::SYNICBOARD_VERSION_MINOR + sys::SYNICBOARD_VERSION_PATCH;
+    // SAFETY: it takes nothing and changes nothing.
+    let theirs = unsafe { sys::synicboard_version() };
+    let is_same = theirs / 10_000 == sys::SYNICBOARD_VERSION_MAJOR && theirs >= ours;
+    assert!(is_same, "libsynicboard is of version {theirs}, and this crate is of version {ours}");
+}
+
 /// Panics: the library returned a value that its header does not have, so their versions differ.
 #[cold]
 fn beyond_the_header(answer: &dyn core::fmt::Debug) -> ! {

@@ -125,6 +125,7 @@ impl Line {
     /// [`OpenFault::BadSize`] if the number is out of range, [`OpenFault::Memory`] if an allocation
     /// fails.
     pub fn open(processors: u8) -> Result<Line, OpenFault> {
+        crate::same_library();
         let mut line = Line::closed(processors);
         OpenFault::judged(ask!(line, synicboard_open_line, processors))?;
         Ok(line)

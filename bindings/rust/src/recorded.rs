@@ -115,6 +115,7 @@ impl RecordedBoard {
     /// [`OpenFault::BadSize`] if a size is out of range, [`OpenFault::Memory`] if an allocation
     /// fails.
     pub fn open(processors: u8, pages: u8, first_ticket: Ticket) -> Result<RecordedBoard, OpenFault> {
+        crate::same_library();
         let board = RecordedBoard { handle: UnsafeCell::new(sys::SYNICBOARD_SHARED_CLOSED) };
         OpenFault::judged(ask!(board, synicboard_open_recorded, processors, pages, first_ticket))?;
         Ok(board)

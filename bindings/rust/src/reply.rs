@@ -2,6 +2,7 @@
 
 use crate::{beyond_the_header, sys, Bytes8, Ticket, Vector};
 use core::error::Error;
+use core::ffi::CStr;
 use core::fmt;
 
 /// The reply to an event.
@@ -167,25 +168,9 @@ impl Refusal {
 
 impl fmt::Display for Refusal {
     fn fmt(&self, formatter: &mut fmt::Formatter<'_>) -> fmt::Result {
-        formatter.write_str(match self {
-            Refusal::UnknownPort => "the port is not open",
-            Refusal::PortOpen => "the port is open already",
-            Refusal::WrongKind => "the port is of the other kind",
-            Refusal::BadTarget => "the target or the shape is out of range",
-            Refusal::BadType => "the message type is 0 or has bit 31 set",
-            Refusal::BadFlag => "the flag is not one of the port's",
-            Refusal::SynicOff => "the SynIC of the target is disabled",
-            Refusal::NoBuffers => "the buffers of the port are in use",
-            Refusal::TicketsSpent => "all tickets are spent",
-            Refusal::ClockBack => "the moment lies before the present one",
-            Refusal::OutsideSpace => "the address lies in no page",
-            Refusal::CrossesPage => "the bytes lie in two pages",
-            Refusal::BadLength => "the length is 0 or above 8",
-            Refusal::NoSuchProcessor => "there is no such processor",
-            Refusal::AlreadySuspended => "the processor is suspended already",
-            Refusal::NotSuspended => "the processor is not suspended",
-            Refusal::Elsewhere => "the page is in the caller's memory",
-        })
+        // SAFETY: each refusal has a text, which ends with a zero and is never changed.
+        let text = unsafe { CStr::from_ptr(sys::synicboard_refusal_text(self.number())) };
+        formatter.write_str(text.to_str().unwrap_or_default())
     }
 }
 

@@ -5,7 +5,7 @@
 
 #![allow(non_camel_case_types)]
 
-use core::ffi::c_void;
+use core::ffi::{c_char, c_void};
 use core::ptr;
 
 /// The first number of the version of the library.
@@ -532,6 +532,15 @@ pub struct synicboard_settled {
 }
 
 extern "C" {
+    /// The version of the library that runs: 10000 * major + 100 * minor + patch.
+    pub fn synicboard_version() -> u32;
+    /// What an outcome means, in words; null if it is none.
+    pub fn synicboard_outcome_text(outcome: u8) -> *const c_char;
+    /// What a refusal means, in words; null if it is none.
+    pub fn synicboard_refusal_text(refusal: u8) -> *const c_char;
+    /// The name of a kind of notices; null if it is none.
+    pub fn synicboard_notice_text(kind: u8) -> *const c_char;
+
     /// Opens a board at time 0. Its first accepted message gets the ticket `first_ticket`.
     pub fn synicboard_open(board: *mut synicboard, processors: u8, pages: u8, first_ticket: u64) -> u8;
     /// Opens a sparse board at time 0, whose guest's pages are in the caller's memory.

@@ -142,7 +142,7 @@ fn spent() -> Reply {
 #[test]
 fn a_refusal_is_an_error_with_words() {
     let refusal: Box<dyn Error> = Box::new(Refusal::NoBuffers);
-    assert_eq!(refusal.to_string(), "the buffers of the port are in use");
+    assert_eq!(refusal.to_string(), "all buffers of the port are in use");
     let mut words = Refusal::ALL.map(|refusal| refusal.to_string()).to_vec();
     words.sort();
     words.dedup();

@@ -48,6 +48,7 @@ fn translated(declaration: &str) -> String {
     let number = word.strip_prefix("uint").and_then(|word| word.strip_suffix("_t"));
     let word = match word {
         "void" => "c_void".to_string(),
+        "char" => "c_char".to_string(),
         "size_t" => "usize".to_string(),
         word => number.map_or(word.to_string(), |bits| format!("u{bits}")),
     };
@@ -99,7 +100,8 @@ fn structs_of_ours(ours: &str) -> Vec<String> {
 fn calls_of_header(text: &str) -> Vec<String> {
     let found = text.lines().filter_map(|line| line.strip_suffix(");")?.split_once('('));
     let answer = |front| translated(front).replace(": c_void", "");
-    found.map(|(front, taken)| listed(&answer(front), items(taken, ',').map(translated))).collect()
+    let parameters = |taken| items(taken, ',').filter(|item| *item != "void").map(translated);
+    found.map(|(front, taken)| listed(&answer(front), parameters(taken))).collect()
 }
 
 fn calls_of_ours(ours: &str) -> Vec<String> {

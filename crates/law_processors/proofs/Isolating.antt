@@ -369,7 +369,7 @@ pub both : (P Q R : ℕ × ℕ → Type 0) → ((t : ℕ × ℕ) → P t → Q t
 both P Q R f [] h k = tt
 both P Q R f (t ∷ ts) h k = (f t h.0 k.0, both P Q R f ts h.1 k.1)
 
-four-clear : (a b c d : Bool) → (a || b || c || d) ≡ false
+pub four-clear : (a b c d : Bool) → (a || b || c || d) ≡ false
     → (a ≡ false) × (b ≡ false) × (c ≡ false) × (d ≡ false)
 four-clear true b c d e = absurd (cc)
 four-clear false true c d e = absurd (cc)

@@ -5,9 +5,9 @@ mod Frames
 mod Commuting
 mod Elsewhere
 mod Alike
-mod Isolated
+pub mod Isolated
 mod IsolatedEffects
-mod Isolating
+pub mod Isolating
 mod Shared
 mod Agreeing
 mod AgreeingEffects

@@ -77,6 +77,7 @@ ticked-quiet old now pages moment reply notices direct is = record {
   direct = λ p _ _. (refl, refl, refl);
   logs = λ p _. refl;
   flags = λ p. refl;
+  size = refl;
   names = refl;
   run = (λ i. run_of s (looks i ++ Tick moment ∷ marks i)) ∙ ap (λ (o : Outcome). (o.0, o.1 ∷ [], o.2 ++ [])) (sym is)
       ∙ (λ i. (now.state, all_done (sym looks i) ++ reply ∷ all_done (sym marks i), append-nil notices i));
@@ -107,6 +108,7 @@ ticked-due old now pages pages-now moment m reply owed before after due count em
   direct = λ p less. t.direct p (omega arith) (omega (arith, less));
   logs = λ p less. t.logs p (omega arith) (omega (arith, less));
   flags = t.flags;
+  size = t.size;
   names = refl;
   run = t.run ∙ ap (λ (ns : List Notice). (
     now.state,

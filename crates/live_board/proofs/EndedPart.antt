@@ -20,11 +20,11 @@ use Rattle.synic_board.proofs.keeping.Placements.{page_of}
 use Rattle.live_pages.specs.Slot.{known, type_of}
 use Rattle.live_pages.specs.declared.access.Access.{Access}
 use Rattle.live_board.specs.Words.{word_of}
-use Rattle.live_board.specs.Live.{explained, all_done, AreCareful, IsShown, HasProbed, ProbesIf, AreProbes, NoneQueued, is_waiting, ArePlaced}
+use Rattle.live_board.specs.Live.{explained, all_done, AreCareful, IsShown, HasProbed, ProbesIf, AreProbes, NoneQueued, is_waiting, ArePlaced, FindInPage}
 use Rattle.live_board.specs.inside.Parts.{IsShadow, IsStep, IsPart, IsLeft, IsProbing, IsPublished, IsWatched, Ends, IsEomOf}
 use Rattle.live_board.proofs.Ended.{ended}
 use Rattle.live_board.proofs.Filled.{stores-show}
-use Rattle.live_board.proofs.Joined.{explained-append, careful-append}
+use Rattle.live_board.proofs.Joined.{explained-append, careful-append, within-append, stores-within}
 use Rattle.live_board.proofs.Part.{run-then, type-is, type-marked, not-watched, header-bytes}
 use Rattle.live_board.proofs.Probed.{rest-waiting}
 use Rattle.live_board.proofs.Staying.{stays}
@@ -47,11 +47,12 @@ rest-eom s now p event rest other = absurd other
 -- the accesses before an event, and the stores after it
 joined : (s mid now : State) (p : ℕ) (log log-mid log-now more : List Access) (event : Event) (reply : Reply)
     (first after : List Notice) (w : IsWatched s p Sim log mid log-mid first) → IsStep mid event now reply first after
-    → explained s p Sim more (w.news ++ log) ≡ [] → (IsShown s p Sim → AreCareful Sim more log-mid)
+    → explained s p Sim more (w.news ++ log) ≡ [] → FindInPage more → (IsShown s p Sim → AreCareful Sim more log-mid)
     → log-now ≡ more ++ log-mid
     → IsShadow now (2 * p) log-now → ((j x : ℕ) → j ≢ 2 * p → word_of now j x ≡ word_of mid j x)
     → length now.own ≡ length mid.own → IsPart s p Sim log event now log-now reply after
-joined s mid now p log log-mid log-now more event reply first after w one silent careful page shadow others count =
+joined s mid now p log log-mid log-now more event reply first after w one silent within careful page shadow others
+    count =
     record {
       news = more ++ w.news;
       page = page ∙ ap (λ l. more ++ l) w.page ∙ sym (append_assoc more w.news log);
@@ -60,6 +61,8 @@ joined s mid now p log log-mid log-now more event reply first after w one silent
           (sym one.notices);
       careful = λ shown. careful-append Sim more w.news log
           (subst (AreCareful Sim more) w.page (careful shown)) w.careful;
+      within = within-append more w.news within w.within;
+      hidden = λ no. shows ∙ w.hidden no;
       shadow = shadow;
       others = λ j x low ne. others j x ne ∙ w.others j x low ne;
       count = count ∙ w.count;
@@ -96,6 +99,7 @@ pub part-ended : (s mid now : State) (p : ℕ) (log log-mid log-now : List Acces
 part-ended s mid now p log log-mid log-now words event reply between after h shape ranges on one e pub-now =
     joined s mid now p log log-mid log-now pub-now.news event reply between after h.watched one
     (stores-show s p Sim pub-now.news (h.watched.news ++ log) pub-now.stores)
+    (stores-within pub-now.news pub-now.stores)
     (λ _. pub-now.careful refl) pub-now.page
     (λ x low. by x low (cases_eq (type_of (get_or words (32 * (x / 32)) 0)) 0)) e.others e.count
   where
@@ -151,7 +155,8 @@ pub part-ended-hidden : (s now : State) (p : ℕ) (log log-now : List Access) (w
 part-ended-hidden s now p log log-now words event reply before after empty hidden one e pub-now =
     joined s s now p log log log-now pub-now.news event reply [] after (not-watched s p log)
     (subst (λ ns. IsStep s event now reply ns after) empty one)
-    (stores-show s p Sim pub-now.news _ pub-now.stores) (λ shown. absurd (hidden shown)) pub-now.page
+    (stores-show s p Sim pub-now.news _ pub-now.stores) (stores-within pub-now.news pub-now.stores)
+    (λ shown. absurd (hidden shown)) pub-now.page
     (λ x low. pub-now.done x low (omega (arith, low)) (inl refl)) e.others e.count
 
 pub has-probed : (s mid now : State) (p : ℕ) (log log-mid log-now : List Access) (words : List ℕ)

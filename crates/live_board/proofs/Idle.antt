@@ -53,4 +53,5 @@ idle-written m p value notices empty on none = (
     placed-empty 16 _,
   )),
   (λ _. refl),
+  (λ _ _. refl),
 )

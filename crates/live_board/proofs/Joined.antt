@@ -16,7 +16,7 @@ use Rattle.synic_board.specs.Run.{Run, run_of, followed_by}
 use Rattle.live_pages.specs.Slot.{known}
 use Rattle.live_pages.specs.declared.access.Access.{Access}
 use Rattle.live_pages.specs.declared.access.Access.TheVariants.{Load, FetchOr, Store}
-use Rattle.live_board.specs.Live.{number_at, IsShown, all_done, explained, shown_by, MayStore, AreCareful, AreLooks}
+use Rattle.live_board.specs.Live.{number_at, IsShown, all_done, explained, shown_by, MayStore, AreCareful, AreLooks, FindInPage, AreStores}
 use Rattle.live_board.specs.inside.Parts.{IsWatched, IsLook, IsLooks}
 
 -- one run after another
@@ -95,6 +95,18 @@ shown-before s now p k rest shown = same k (subst (λ t. IsShown t p k) rest sho
     same kind.Sim h = h
     same kind.Sief h = h
 
+pub within-append : (later news : List Access) → FindInPage later → FindInPage news → FindInPage (later ++ news)
+within-append [] news h g = g
+within-append (Load w found ∷ later) news h g = (h.0, within-append later news h.1 g)
+within-append (FetchOr w mask found ∷ later) news h g = (h.0, within-append later news h.1 g)
+within-append (Store w value ∷ later) news h g = within-append later news h g
+
+pub stores-within : (news : List Access) → AreStores news → FindInPage news
+stores-within [] are = tt
+stores-within (Store w value ∷ news) are = stores-within news are
+stores-within (Load w found ∷ news) are = absurd are
+stores-within (FetchOr w mask found ∷ news) are = absurd are
+
 -- looks after looks
 unfoldable pub watched-then : (s mid now : State) (p : ℕ) (k : Kind) (log log-mid log-now : List Access)
     (first second : List Notice) → IsWatched s p k log mid log-mid first → IsWatched mid p k log-mid now log-now second
@@ -104,6 +116,8 @@ watched-then s mid now p k log log-mid log-now first second a b = record {
   page = b.page ∙ ap (λ l. b.news ++ l) a.page ∙ sym (append_assoc b.news a.news log);
   run = run;
   careful = careful-append k b.news a.news log (subst (λ l. AreCareful k b.news l) a.page b.careful) a.careful;
+  within = within-append b.news a.news b.within a.within;
+  hidden = λ no. events ∙ (λ i. a.hidden no i ++ b.hidden (λ shown. no (shown-before s mid p k a.rest shown)) i);
   rest = b.rest ∙ ap (λ (t : State). record t { own = now.own; slots = now.slots }) a.rest;
   count = b.count ∙ a.count;
   others = λ j w low ne. b.others j w low ne ∙ a.others j w low ne;
@@ -137,6 +151,8 @@ renoted s now p log log-now ns other is w =
       page = w.page;
       run = w.run ∙ ap (λ x. (now, all_done (explained s p kind.Sim w.news log), x)) is;
       careful = w.careful;
+      within = w.within;
+      hidden = w.hidden;
       rest = w.rest;
       count = w.count;
       others = w.others;

@@ -42,5 +42,6 @@ pub mod Woken
 pub mod Remembered
 pub mod WokenTimers
 pub mod WokenTicks
+pub mod WokenPaid
 pub mod Paid
 pub mod Runs

@@ -16,7 +16,7 @@ use Rattle.synic_board.specs.State.{State, BoardModel}
 use Rattle.live_pages.specs.Page.{Page, GuestModel, guest_of}
 use Rattle.live_pages.specs.Slot.{known}
 use Rattle.board_terms.specs.declared.pages.Kind.TheVariants.{Sim}
-use Rattle.live_board.specs.Acting.{HasLookedAt, HasPlacedAt, AccessesOnly}
+use Rattle.live_board.specs.Acting.{HasLookedAt, HasPlacedAt, AccessesOnly, AccessesOnlyAt}
 use Rattle.live_board.specs.Signals.{HasSetAt}
 use Rattle.live_board.specs.Live.{LiveModel, Shadows, log_of, IsShown, HasProbed, IsLive, IsQuietly, IsTimed, IsTicked, IsReset, IsObserved, guests_of}
 use Rattle.live_board.specs.inside.Pages.{logs_of, names_of}
@@ -191,6 +191,8 @@ live-named event reply notices = record {
     names = names;
     run = h.run;
     careful = h.careful;
+    within = h.within;
+    hidden = h.hidden;
   };
 }
 
@@ -226,6 +228,7 @@ ticked-named moment reply owed notices = record {
     idle = h.idle;
     logs = h.logs;
     flags = h.flags;
+    size = h.size;
     names = names;
     run = h.run;
     owes = h.owes;
@@ -286,6 +289,9 @@ looked-named port = record { named = λ old now names h. h }
 
 pub only-named : (port : ℕ) (k : Kind) → Carries (λ old now. AccessesOnly port k old now)
 only-named port k = record { named = λ old now names h. h }
+
+pub only-at-named : (p : ℕ) (k : Kind) → Carries (λ old now. AccessesOnlyAt p k old now)
+only-at-named p k = record { named = λ old now names h. h }
 
 pub placed-named : (port : ℕ) → Carries (λ old now. HasPlacedAt port old now)
 placed-named port = record { named = λ old now names h. h }

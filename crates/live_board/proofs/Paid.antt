@@ -37,7 +37,7 @@ last-append d r [] = refl
 last-append d r (one ∷ rs) = last-append one r rs
 
 -- a run leaves the number of processors
-run-stays : (es : List Event) (s : State) → All PayloadFits es → IsSound s
+pub run-stays : (es : List Event) (s : State) → All PayloadFits es → IsSound s
     → (processors (run_of s es).0 ≡ processors s) × IsSound (run_of s es).0
 unfolding run_of
 run-stays [] s fits h = (refl, h)

@@ -155,6 +155,8 @@ part-kept s mid now number kind port log log-mid header left event reply between
           ∙ ap (λ (ns : List Notice). (now, all_done (explained s p Sim f.watched.news log) ++ reply ∷ [], ns))
           (sym (one.notices ∙ ap (λ ns. ns ++ one.emitted) f.notices));
       careful = λ _. f.watched.careful;
+      within = f.watched.within;
+      hidden = f.watched.hidden;
       shadow = λ x low. by x low (cases_eq x h);
       others = λ j w low ne. m.others j w low (inl ne) ∙ f.watched.others j w low ne;
       count = m.count ∙ f.watched.count;
@@ -217,6 +219,8 @@ part-filled s mid now number kind port log log-mid log-now left event reply firs
           (sym (into.step.notices ∙ ap (λ ns. ns ++ into.step.emitted) notices));
       careful = λ shown. runs.careful-append Sim more w.news log
           (subst (λ l. AreCareful Sim more l) w.page (into.filled.careful (empty shown))) w.careful;
+      within = runs.within-append more w.news (runs.stores-within more into.filled.stores) w.within;
+      hidden = λ no. shows ∙ w.hidden no;
       shadow = λ x low. by x low (cases_eq (x / 32) port.sint);
       others = λ j x low ne. m.others j x low (inl ne) ∙ w.others j x low ne;
       count = m.count ∙ w.count;
@@ -251,6 +255,8 @@ not-watched s p log =
       page = refl;
       run = refl;
       careful = tt;
+      within = tt;
+      hidden = λ _. refl;
       rest = refl;
       count = refl;
       others = λ j w _ _. refl;
@@ -266,6 +272,8 @@ no-looks s p log notices none shadow = record {
     page = refl;
     run = ap (λ (ns : List Notice). (s, [], ns)) (sym none);
     careful = tt;
+    within = tt;
+    hidden = λ _. refl;
     rest = refl;
     count = refl;
     others = λ j w _ _. refl;

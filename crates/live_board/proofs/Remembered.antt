@@ -5,14 +5,14 @@ use Rattle.std.proofs.lemmas.Bool.Decides.{nat_tests}
 use Rattle.live_pages.specs.Slot.{known, header, type_of, is_pending}
 use Rattle.live_pages.specs.declared.access.Turn.{Turn}
 use Rattle.live_pages.specs.declared.access.Turn.TheVariants.{ByHost, ByGuest}
-use Rattle.live_pages.specs.Traces.{memory, accesses, IsHistory}
+use Rattle.live_pages.specs.Traces.{memory, accesses, IsHistory, is_of, is_accessed}
 use Rattle.live_pages.specs.Protocol.{idle, cleared, HostAt, GuestAt}
 use Rattle.live_pages.specs.Headers.{Slot, Step, are_steps, led_to, is_stuck, is_occupied}
 use Rattle.live_pages.specs.declared.access.Access.{Access}
 use Rattle.live_pages.specs.declared.access.Access.TheVariants.{Load, FetchOr, Store}
 use Rattle.live_pages.proofs.Protocol.{kept, world}
 use Rattle.live_pages.proofs.Headers.{world_of, runs}
-use Rattle.live_board.specs.Waking.{is_of, is_accessed, IsLeftMarked, WasMarked, MayFollow}
+use Rattle.live_board.specs.Waking.{IsLeftMarked, WasMarked, MayFollow}
 
 equal : (a b : ℕ) → (a == b) ≡ true → a ≡ b
 equal a b e = grind (arith, nat_tests)

@@ -104,7 +104,7 @@ paid-one : (b : Bool) (p : ℕ) (old now : LiveModel) (notices : List Notice) �
     → (es : List Event) × IsEomIf b p es × (run_of old.board.state es ≡ (now.board.state, all_done es, notices))
 unfolding run_of
 paid-one false p old now notices (same, none) = ([], refl, (λ i. ((sym same i).board.state, [], sym none i)))
-paid-one true p old now notices (h, _, _) =
+paid-one true p old now notices (h, _, _, _) =
     let stores : List Event = explained old.board.state h.vp h.kind h.news (log_of old h.vp h.kind) in (
       stores ++ eom_by p ∷ [],
       (stores, looks-stores old.board.state h.vp h.kind h.news (log_of old h.vp h.kind), refl),
@@ -431,7 +431,7 @@ eoms-fit owed (suc n) es (before, after, is, first, last) = subst (All PayloadFi
         (All-append PayloadFits stores (eom_by n ∷ []) (stores-fit stores h)
         (All-cons PayloadFits (eom_by n) [] tt (All-nil PayloadFits)))
 
-between-fits : (calls : List Call) (events : List Event) (replies : List Reply)
+pub between-fits : (calls : List Call) (events : List Event) (replies : List Reply)
     → All (λ (c : Call). PayloadFits c.event) calls → HasBetween calls events replies → All PayloadFits events
 between-fits [] events replies fits (none, _) = subst (All PayloadFits) (sym none) (All-nil PayloadFits)
 between-fits (c ∷ calls) events replies fits (inl (refused, rest)) =

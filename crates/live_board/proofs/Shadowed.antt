@@ -24,7 +24,7 @@ use Rattle.live_pages.specs.Slot.{known}
 use Rattle.live_pages.specs.declared.access.Access.{Access}
 use Rattle.live_board.specs.Words.{word_of}
 use Rattle.live_board.specs.Live.{LiveModel, Shadows, IsLive, IsQuietly, IsObserved, IsShown, IsTimed, IsReset, HasProbed, log_of}
-use Rattle.live_board.specs.Acting.{AccessesOnly}
+use Rattle.live_board.specs.Acting.{AccessesOnly, AccessesOnlyAt}
 use Rattle.live_board.specs.inside.Parts.{IsShadow, LeavesOthers, IsPart, IsTimedPart, IsViewed, IsResetPart, IsCleared}
 
 -- a board and its pages, without the names of these
@@ -104,6 +104,8 @@ part-live old now pages p k event log-now reply notices part = record {
   names = refl;
   run = part.run;
   careful = part.careful;
+  within = part.within;
+  hidden = part.hidden;
 }
 
 -- an event without accesses
@@ -120,6 +122,8 @@ untouched-live old now pages event reply notices is = record {
   run = ap (λ (o : Outcome). (o.0, o.1 ∷ [], o.2 ++ [])) (sym is)
       ∙ ap (λ (ns : List Notice). (now.state, reply ∷ [], ns)) (append-nil notices);
   careful = λ _. tt;
+  within = tt;
+  hidden = λ _. refl;
 }
 
 pub quiet-live : (old now : LiveModel) (event : Event) (reply : Reply) (notices : List Notice)
@@ -133,6 +137,8 @@ quiet-live old now event reply notices quiet =
       names = quiet.names;
       run = h.run;
       careful = h.careful;
+      within = h.within;
+      hidden = h.hidden;
     }
 
 pub same-shadows : (s now : State) (pages : List (List Access)) → now.own ≡ s.own → Shadows s pages → Shadows now pages
@@ -276,13 +282,18 @@ port-at R old pages number i port log log-now there-is index inside page h targe
     there = ap (λ n. get_or (set pages n log-now) (2 * port.vp) []) index
         ∙ get_or-set_same pages (2 * port.vp) log-now [] inside
 
+-- no other page than one of a processor
+pub only-here : (old now : BoardModel) (pages : List (List Access)) (p i : ℕ) (k : Kind) (log-now : List Access)
+    → i ≡ overlay_of p k → AccessesOnlyAt p k (live old pages) (live now (set pages i log-now))
+only-here old now pages p i k log-now index j ne = get_or-set_other pages i j log-now [] (λ e. ne (e ∙ index))
+
 -- no other page than that of a port's source
 pub only-at : (old now : BoardModel) (pages : List (List Access)) (number i : ℕ) (k : Kind) (port : Port)
     (log-now : List Access) → port_at (ports_of old.state) number ≡ Some port → i ≡ overlay_of port.vp k
     → AccessesOnly number k (live old pages) (live now (set pages i log-now))
 only-at old now pages number i k port log-now there-is index = (
-  (λ target at j ne. get_or-set_other pages i j log-now []
-      (λ e. ne (e ∙ index ∙ ap (λ (t : Port). overlay_of t.vp k) (same target at)))),
+  (λ target at. only-here old now pages target.vp i k log-now
+      (index ∙ ap (λ (t : Port). overlay_of t.vp k) (same target at))),
   (λ none. absurd (let e : Some port ≡ None = sym there-is ∙ none in cc)),
 )
   where

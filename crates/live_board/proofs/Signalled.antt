@@ -170,6 +170,8 @@ part-untouched s now p k log event reply before after empty shadow own one = rec
       ∙ ap (λ (ns : List Notice). (now, reply ∷ [], ns))
       (append-nil one.emitted ∙ sym (one.notices ∙ ap (λ ns. ns ++ one.emitted) empty));
   careful = λ _. tt;
+  within = tt;
+  hidden = λ _. refl;
   shadow = λ x low. shadow x low ∙ ap (λ l. word_of (record s { own = l }) (overlay_of p k) x) (sym own);
   others = λ j x _ _. ap (λ l. word_of (record s { own = l }) j x) own;
   count = ap length own;
@@ -187,6 +189,8 @@ part-marked s mid now p w mask found log log-mid event reply before between afte
       ∙ ap (λ (ns : List Notice). (now, all_done (explained s p Sief m.watched.news log) ++ reply ∷ [], ns))
       (sym (one.notices ∙ ap (λ ns. ns ++ one.emitted) (m.notices ∙ ap (λ ns. ns ++ m.emitted) empty)));
   careful = λ _. m.watched.careful;
+  within = m.watched.within;
+  hidden = m.watched.hidden;
   shadow = λ x small. by x small (cases_eq x w);
   others = λ j x small ne. f.others j x (inl ne) ∙ m.watched.others j x small ne;
   count = f.count ∙ m.watched.count;
@@ -214,6 +218,8 @@ part-stored s now p w mask log log-now event reply before after empty low shadow
       ∙ ap (λ (ns : List Notice). (now, reply ∷ [], ns))
       (append-nil one.emitted ∙ sym (one.notices ∙ ap (λ ns. ns ++ one.emitted) empty));
   careful = λ shown. absurd (hidden shown);
+  within = tt;
+  hidden = λ _. refl;
   shadow = λ x small. ap (λ l. known l x) is ∙ by x small (cases_eq x w);
   others = λ j x small ne. f.others j x (inl ne);
   count = f.count;

@@ -12,7 +12,7 @@ use Rattle.synic_board.specs.Run.{run_of}
 use Rattle.live_pages.specs.Slot.{known}
 use Rattle.live_pages.specs.declared.access.Access.{Access}
 use Rattle.live_pages.specs.declared.access.Access.TheVariants.{Load, FetchOr}
-use Rattle.live_board.specs.Live.{store_of, all_done, explained, AreCareful}
+use Rattle.live_board.specs.Live.{store_of, all_done, explained, AreCareful, IsShown, FindInPage}
 use Rattle.live_board.specs.inside.Parts.{found_stores, IsPassed}
 use Rattle.live_board.specs.Words.{word_of}
 use Rattle.live_board.specs.inside.Parts.{HasWord, IsShadow, IsWatched, IsPassedOn, IsLook, IsMark}
@@ -35,14 +35,17 @@ mark-shows s p k w mask found log is = ap (λ n. if found == n then [] else stor
 
 watched-by : (s : State) (p : ℕ) (k : Kind) (w found : ℕ) (log now-log news : List Access) (now : State)
     (notices : List Notice) → explained s p k news log ≡ found_stores s p k w found → AreCareful k news log
-    → now-log ≡ news ++ log
+    → FindInPage news
+    → IsShown s p k → now-log ≡ news ++ log
     → IsPassed s p k w found now notices → HasWord s (overlay_of p k) w found now
     → IsWatched s p k log now now-log notices
-watched-by s p k w found log now-log news now notices shows careful page passed word = record {
+watched-by s p k w found log now-log news now notices shows careful within shown page passed word = record {
   news = news;
   page = page;
   run = ap (run_of s) shows ∙ passed ∙ ap (λ (es : List Event). (now, all_done es, notices)) (sym shows);
   careful = careful;
+  within = within;
+  hidden = λ no. absurd (no shown);
   rest = word.rest;
   count = word.count;
   others = λ j x _ ne. word.others j x (inl ne);
@@ -50,16 +53,17 @@ watched-by s p k w found log now-log news now notices shows careful page passed 
 }
 
 pub look-is : (s : State) (p : ℕ) (k : Kind) (w found : ℕ) (log log-now : List Access) (now : State)
-    (before after : List Notice) → known log w ≡ word_of s (overlay_of p k) w → log-now ≡ Load w found ∷ log
+    (before after : List Notice) → w < 512 → IsShown s p k → known log w ≡ word_of s (overlay_of p k) w
+    → log-now ≡ Load w found ∷ log
     → IsPassedOn s p k w found now before after → IsLook s p k w log now log-now found before after
 unfolding watched-by
-look-is s p k w found log log-now now before after is page on = record {
+look-is s p k w found log log-now now before after small shown is page on = record {
   emitted = on.emitted;
   notices = on.notices;
   few = on.few;
   page = page;
   watched = watched-by s p k w found log log-now (Load w found ∷ []) now on.emitted
-      (look-shows s p k w found log is) tt page on.passed on.word;
+      (look-shows s p k w found log is) tt (small, tt) shown page on.passed on.word;
   news = refl;
   word = on.word;
   here = here;
@@ -80,16 +84,17 @@ look-is s p k w found log log-now now before after is page on = record {
     by shadow x small (inr ne) = others x ne ∙ shadow x small ∙ sym (on.word.others (overlay_of p k) x (inr ne))
 
 pub mark-is : (s : State) (p : ℕ) (k : Kind) (w mask found : ℕ) (log log-now : List Access) (now : State)
-    (before after : List Notice) → known log w ≡ word_of s (overlay_of p k) w → log-now ≡ FetchOr w mask found ∷ log
+    (before after : List Notice) → w < 512 → IsShown s p k → known log w ≡ word_of s (overlay_of p k) w
+    → log-now ≡ FetchOr w mask found ∷ log
     → IsPassedOn s p k w found now before after → IsMark s p k w mask log now log-now found before after
 unfolding watched-by
-mark-is s p k w mask found log log-now now before after is page on = record {
+mark-is s p k w mask found log log-now now before after small shown is page on = record {
   emitted = on.emitted;
   notices = on.notices;
   few = on.few;
   page = page;
   watched = watched-by s p k w found log log-now (FetchOr w mask found ∷ []) now on.emitted
-      (mark-shows s p k w mask found log is) tt page on.passed on.word;
+      (mark-shows s p k w mask found log is) tt (small, tt) shown page on.passed on.word;
   news = refl;
   word = on.word;
   here = ap (λ l. known l w) page ∙ rw (same w w refl) refl;

@@ -32,9 +32,10 @@ use Rattle.synic_board.proofs.keeping.Placements.{page_of}
 use Rattle.live_pages.specs.Slot.{known, header, type_of, is_pending}
 use Rattle.live_pages.specs.declared.access.Access.{Access}
 use Rattle.live_pages.specs.declared.access.Access.TheVariants.{Load}
+use Rattle.live_pages.specs.Traces.{is_of, is_accessed}
 use Rattle.live_board.specs.Acting.{HasLookedAt, HasProbedAt}
 use Rattle.live_board.specs.Live.{LiveModel, Shadows, IsLive, IsOwnStore, IsProbe, ProbesIf, AreProbes, is_waiting, explained, all_done, log_of}
-use Rattle.live_board.specs.Waking.{is_of, is_accessed, LeavesMarked}
+use Rattle.live_board.specs.Waking.{LeavesMarked}
 use Rattle.live_board.specs.Words.{word_of}
 use Rattle.live_board.proofs.Bytes.{bit-of}
 use Rattle.live_board.proofs.Guests.{guest-stores, fits-all, kept-by}
@@ -171,7 +172,7 @@ or-right : (c b : Bool) → b ≡ true → (c || b) ≡ true
 or-right true b e = refl
 or-right false b e = e
 
-accessed-left : (w : ℕ) (a b : List Access) → is_accessed w a ≡ true → is_accessed w (a ++ b) ≡ true
+pub accessed-left : (w : ℕ) (a b : List Access) → is_accessed w a ≡ true → is_accessed w (a ++ b) ≡ true
 accessed-left w [] b e = absurd (cc)
 accessed-left w (x ∷ a) b e =
     or-left (is_of w x) (is_accessed w a) (is_accessed w (a ++ b)) (λ h. accessed-left w a b h) e
@@ -210,6 +211,15 @@ on-after mid now p event fits sound state on =
     (sym (ap processors state
     ∙ stays mid (step mid event).0 event (step mid event).1 (step mid event).2 fits sound refl)) on
 
+-- the processor is still on the board after a write
+pub still-on : (old now : LiveModel) (p number value : ℕ) (reply : Reply) (notices : List Notice)
+    → IsSound old.board.state → p < processors old.board.state → IsLive old (Write p number value) now reply notices
+    → p < processors now.board.state
+still-on old now p number value reply notices sound on live =
+    let a = after-stores old now (Write p number value) reply notices sound live in
+    on-after a.mid now.board.state p (Write p number value) tt a.sound a.state
+    (subst (λ l. p < length l) (sym a.beside.apics) on)
+
 pub eom-marked : (old now : LiveModel) (p i number value : ℕ) (reply : Reply) (notices : List Notice)
     → IsSound old.board.state → HasShape now.board.state → HasRanges now.board.state → Shadows now.board.state now.pages
     → p < processors old.board.state → i < 16 → register_of number ≡ Some Eom
@@ -223,7 +233,7 @@ eom-marked old now p i number value reply notices sound shape ranges shadows on 
     let seen = subst (λ t. IsSeen t p i) (sym a.state) (all.seen i under waits-step) in
     let before = sym (beside-waiting s a.mid p i a.beside) ∙ all.before i under waits-step in
     let known = marked-known now.board.state now.pages p i shape ranges shadows
-    (on-after a.mid now.board.state p (Write p number value) tt a.sound a.state on-mid) under seen in
+    (still-on old now p number value reply notices sound on live) under seen in
     let h = probed on shown in
     record {
       news = h.0 ++ h.1;

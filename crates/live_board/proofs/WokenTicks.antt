@@ -18,8 +18,9 @@ use Rattle.synic_board.specs.Step.{step}
 use Rattle.synic_board.proofs.keeping.Wholes.{kept_from_sound}
 use Rattle.live_pages.specs.Slot.{header}
 use Rattle.live_pages.specs.declared.access.Access.{Access}
+use Rattle.live_pages.specs.Traces.{is_accessed}
 use Rattle.live_board.specs.Live.{LiveModel, Shadows, IsTicked, IsShown, AreMarks, number_at, explained, explained_after, looked_from, marked_from, is_any_due, AreDueDirect, has_processor, log_of}
-use Rattle.live_board.specs.Waking.{is_accessed, IsLeftMarked, LeavesMarkedUnlessOwed}
+use Rattle.live_board.specs.Waking.{IsLeftMarked, LeavesMarkedUnlessOwed}
 use Rattle.live_board.proofs.Clocked.{early-queues}
 use Rattle.live_board.proofs.DirectTicks.{queue-tick, rest-due}
 use Rattle.live_board.proofs.Fired.{Goes, goes-ticked}
@@ -110,7 +111,7 @@ tick-goes : (s : State) (moment p i : ℕ) → IsSound s → i < 16 → Goes s p
 unfolding step
 tick-goes s moment p i h under = goes-ticked (processors s) s moment p i (kept_from_sound s h) under
 
-tick-grows : (s : State) (moment : ℕ) → IsSound s → Grows (processors s) Any s (step s (Tick moment)).0
+pub tick-grows : (s : State) (moment : ℕ) → IsSound s → Grows (processors s) Any s (step s (Tick moment)).0
 unfolding step
 tick-grows s moment h = grows-ticked (processors s) s moment (kept_from_sound s h)
 
@@ -156,7 +157,7 @@ one-or false false = inl (λ no. absurd (cc))
 one-or true false = inr (λ h. let e : false ≡ true = h refl in cc)
 
 -- whether those of a processor are
-direct-or : (s : State) (p moment : ℕ) → AreDueDirect s p moment ⊎ (AreDueDirect s p moment → ⊥)
+pub direct-or : (s : State) (p moment : ℕ) → AreDueDirect s p moment ⊎ (AreDueDirect s p moment → ⊥)
 direct-or s p moment = by (one 0) (one 1) (one 2) (one 3)
   where
     one : (i : ℕ) → IsDirectIfDue s p moment i ⊎ (IsDirectIfDue s p moment i → ⊥)
@@ -222,7 +223,7 @@ pub tick-marked : (old now : LiveModel) (p i moment : ℕ) (reply : Reply) (owed
     → Shadows now.board.state now.pages
     → p < processors old.board.state → i < 16 → IsTicked old moment now reply owed notices
     → LeavesMarkedUnlessOwed p i old now (has_processor owed p)
-tick-marked old now p i moment reply owed notices sound shape ranges shadows on under t other none shown waits =
+tick-marked old now p i moment reply owed notices sound shape ranges shadows on under t none other shown waits =
     by (direct-or s p moment) (is_any_due s moment) refl
   where
     s : State

@@ -39,9 +39,10 @@ use Rattle.synic_board.proofs.keeping.Wholes.{kept_from_sound}
 use Rattle.live_pages.specs.Slot.{known, header, type_of}
 use Rattle.live_pages.specs.declared.access.Access.{Access}
 use Rattle.live_pages.specs.declared.access.Access.TheVariants.{Load, FetchOr, Store}
+use Rattle.live_pages.specs.Traces.{is_accessed}
 use Rattle.live_board.specs.Timers.{is_timer_register, is_timer_write}
 use Rattle.live_board.specs.Live.{LiveModel, Shadows, IsTimed, IsShown, AreLooks, AreMarks, finds_empty, number_at, store_of, is_waiting, explained, explained_after, log_of}
-use Rattle.live_board.specs.Waking.{is_accessed, IsLeftMarked, LeavesMarkedUnlessOwed}
+use Rattle.live_board.specs.Waking.{IsLeftMarked, LeavesMarkedUnlessOwed}
 use Rattle.live_board.proofs.Fired.{Goes, goes-written}
 use Rattle.live_board.proofs.Grown.{Grows, Only}
 use Rattle.live_board.proofs.Guests.{Rest, looks-of, page-run, guest-stores, late-stores, fits-all, kept-by, rest-after, rest-store}
@@ -304,33 +305,30 @@ word-marked end now p i marks rest log-now pages are none is there held seen on 
         let word = marked-known now pages p i shape ranges shadows on under (held-seen end now p i (held not) seen) in
         subst (λ l. Marks (known l (header i))) (sym there) (record { occupied = word.0; pending = word.1 })
 
-pub timer-marked : (old now : LiveModel) (p i number value : ℕ) (reply : Reply) (owed : Bool) (notices : List Notice)
-    → IsSound old.board.state → HasShape now.board.state → HasRanges now.board.state → Shadows now.board.state now.pages
-    → p < processors old.board.state → i < 16 → is_timer_write (Write p number value) ≡ true
-    → IsTimed p old (Write p number value) now reply owed notices → LeavesMarkedUnlessOwed p i old now owed
-timer-marked old now p i number value reply owed notices sound shape ranges shadows on under timer timed other none
-    shown waits =
-    left-marked i timed.looks timed.stores timed.marks log (log_of now p Sim) page under looks
-    (word-marked steps.end now.board.state p i timed.marks rest (log_of now p Sim) now.pages timed.are.marked
-    (sym timed.owes ∙ none) page refl held-slot
-    (seen-after s steps.mid steps.end now.board.state p i steps.seen held.rest goes other waits) now-on shape ranges
-    shadows under)
+-- a write of a timer, where the guest sees the page: the states, and what holds of the one after the event
+record IsWritten (s : State) (p number value : ℕ) (looks log marks rest : List Access) (now : State) : Type 0 where
+  pub steps : AreSteps s p (Write p number value) looks log marks rest now
+  pub end_sound : IsSound steps.end
+  pub end_on : p < processors steps.end
+  pub end_shown : IsShown steps.end p Sim
+  pub same_number : number_at steps.end p Sim ≡ number_at s p Sim
+
+written-of : (s now : State) (p number value : ℕ) (looks log marks rest : List Access) (replies : List Reply)
+    (notices : List Notice) → IsSound s → p < processors s → is_timer_write (Write p number value) ≡ true
+    → IsShown s p Sim → AreLooks 16 looks
+    → run_of s (explained s p Sim looks log ++ Write p number value ∷ explained_after s p marks rest)
+    ≡ (now, replies, notices)
+    → IsWritten s p number value looks log marks rest now
+written-of s now p number value looks log marks rest replies notices sound on timer shown are run = record {
+  steps = steps;
+  end_sound = subst IsSound (sym steps.is) (after-sound steps.mid (Write p number value) tt steps.sound);
+  end_on = on-after steps.mid steps.end p (Write p number value) tt steps.sound steps.is mid-on;
+  end_shown = shown-same steps.mid steps.end p grows.regs grows.pages (rest-shown s steps.mid p Sim steps.seen shown);
+  same_number = (λ k. number_at (record s { regs = grows.regs k }) p Sim) ∙ rest-number s steps.mid p Sim steps.seen;
+}
   where
-    s : State
-    s = old.board.state
-
-    log : List Access
-    log = log_of old p Sim
-
-    rest : List Access
-    rest = timed.stores ++ (timed.looks ++ log)
-
-    looks : AreLooks 16 timed.looks
-    looks = timed.are.shown shown
-
-    steps : AreSteps s p (Write p number value) timed.looks log timed.marks rest now.board.state
-    steps = steps-of s now.board.state p
-        (Write p number value) timed.looks log timed.marks rest _ notices sound shown looks timed.run
+    steps : AreSteps s p (Write p number value) looks log marks rest now
+    steps = steps-of s now p (Write p number value) looks log marks rest replies notices sound shown are run
 
     mid-on : p < processors steps.mid
     mid-on = subst (λ n. p < n) (sym (ap processors steps.seen)) on
@@ -341,35 +339,72 @@ timer-marked old now p i number value reply owed notices sound shape ranges shad
         (λ k. (steps.is k, (step steps.mid (Write p number value)).1, (step steps.mid (Write p number value)).2))
         steps.sound
 
-    end-sound : IsSound steps.end
-    end-sound = subst IsSound (sym steps.is) (after-sound steps.mid (Write p number value) tt steps.sound)
+-- the marks leave a slot that they do not access
+held-beside : (s : State) (p number value : ℕ) (looks log marks rest : List Access) (now : State)
+    → (w : IsWritten s p number value looks log marks rest now) → AreMarks marks → (j : ℕ)
+    → is_accessed (header j) marks ≡ false → Held w.steps.end p j now
+held-beside s p number value looks log marks rest now w are j not =
+    subst (Held w.steps.end p j) (sym w.steps.state)
+    (held-marks s w.steps.end p j p marks rest w.end_sound w.end_on w.end_shown w.same_number are (inr not))
 
-    end-on : p < processors steps.end
-    end-on = on-after steps.mid steps.end p (Write p number value) tt steps.sound steps.is mid-on
+timed-written : (old now : LiveModel) (p number value : ℕ) (reply : Reply) (owed : Bool) (notices : List Notice)
+    → IsSound old.board.state → p < processors old.board.state → is_timer_write (Write p number value) ≡ true
+    → IsShown old.board.state p Sim → (t : IsTimed p old (Write p number value) now reply owed notices)
+    → IsWritten old.board.state p number value t.looks (log_of old p Sim) t.marks
+    (t.stores ++ (t.looks ++ log_of old p Sim)) now.board.state
+timed-written old now p number value reply owed notices sound on timer shown t =
+    written-of old.board.state now.board.state p number value t.looks (log_of old p Sim) t.marks
+    (t.stores ++ (t.looks ++ log_of old p Sim)) _ notices sound on timer shown (t.are.shown shown) t.run
 
-    end-shown : IsShown steps.end p Sim
-    end-shown = shown-same steps.mid steps.end p grows.regs grows.pages (rest-shown s steps.mid p Sim steps.seen shown)
+-- the processor is still on the board, and the guest sees its page
+pub timed-shown : (old now : LiveModel) (p number value : ℕ) (reply : Reply) (owed : Bool) (notices : List Notice)
+    → IsSound old.board.state → p < processors old.board.state → is_timer_write (Write p number value) ≡ true
+    → IsShown old.board.state p Sim → IsTimed p old (Write p number value) now reply owed notices
+    → (p < processors now.board.state) × IsShown now.board.state p Sim
+timed-shown old now p number value reply owed notices sound on timer shown t =
+    let w = timed-written old now p number value reply owed notices sound on timer shown t in
+    let held = held-beside old.board.state p number value t.looks (log_of old p Sim) t.marks
+    (t.stores ++ (t.looks ++ log_of old p Sim)) now.board.state w t.are.marked 16
+    (no-sixteen t.marks t.are.marked) in (
+      subst (λ n. p < n) (sym (ap processors held.rest)) w.end_on,
+      rest-shown w.steps.end now.board.state p Sim held.rest w.end_shown,
+    )
 
-    same-number : number_at steps.end p Sim ≡ number_at s p Sim
-    same-number = (λ k. number_at (record s { regs = grows.regs k }) p Sim) ∙ rest-number s steps.mid p Sim steps.seen
+pub timer-marked : (old now : LiveModel) (p i number value : ℕ) (reply : Reply) (owed : Bool) (notices : List Notice)
+    → IsSound old.board.state → HasShape now.board.state → HasRanges now.board.state → Shadows now.board.state now.pages
+    → p < processors old.board.state → i < 16 → is_timer_write (Write p number value) ≡ true
+    → IsTimed p old (Write p number value) now reply owed notices → LeavesMarkedUnlessOwed p i old now owed
+timer-marked old now p i number value reply owed notices sound shape ranges shadows on under timer timed none other
+    shown waits =
+    left-marked i timed.looks timed.stores timed.marks log (log_of now p Sim) page under (timed.are.shown shown)
+    (word-marked w.steps.end now.board.state p i timed.marks rest (log_of now p Sim) now.pages timed.are.marked
+    (sym timed.owes ∙ none) page refl
+    (held-beside s p number value timed.looks log timed.marks rest now.board.state w timed.are.marked i)
+    (seen-after s w.steps.mid w.steps.end now.board.state p i w.steps.seen held.rest goes other waits) now-on shape
+    ranges shadows under)
+  where
+    s : State
+    s = old.board.state
 
-    goes : Goes steps.mid p i steps.end
-    goes = subst (Goes steps.mid p i) (sym steps.is)
-        (timer-goes steps.mid p number value i mid-on timer under steps.sound)
+    log : List Access
+    log = log_of old p Sim
 
-    held : Held steps.end p 16 now.board.state
-    held = subst (Held steps.end p 16) (sym steps.state)
-        (held-marks s steps.end p 16 p timed.marks rest end-sound end-on end-shown same-number timed.are.marked
-        (inr (no-sixteen timed.marks timed.are.marked)))
+    rest : List Access
+    rest = timed.stores ++ (timed.looks ++ log)
 
-    held-slot : is_accessed (header i) timed.marks ≡ false → Held steps.end p i now.board.state
-    held-slot not =
-        subst (Held steps.end p i) (sym steps.state)
-        (held-marks s steps.end p i p timed.marks rest end-sound end-on end-shown same-number timed.are.marked
-        (inr not))
+    w : IsWritten s p number value timed.looks log timed.marks rest now.board.state
+    w = timed-written old now p number value reply owed notices sound on timer shown timed
+
+    goes : Goes w.steps.mid p i w.steps.end
+    goes = subst (Goes w.steps.mid p i) (sym w.steps.is) (timer-goes w.steps.mid p number value i
+        (subst (λ n. p < n) (sym (ap processors w.steps.seen)) on) timer under w.steps.sound)
+
+    held : Held w.steps.end p 16 now.board.state
+    held = held-beside s p number value timed.looks log timed.marks rest now.board.state w timed.are.marked 16
+        (no-sixteen timed.marks timed.are.marked)
 
     now-on : p < processors now.board.state
-    now-on = subst (λ n. p < n) (sym (ap processors held.rest)) end-on
+    now-on = (timed-shown old now p number value reply owed notices sound on timer shown timed).0
 
     size : 2 * p < length old.pages
     size = omega (

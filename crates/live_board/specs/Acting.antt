@@ -33,11 +33,15 @@ HasPlacedAt port old now =
     → HasPlaced target.sint (slot_word now.board.state target.vp target.sint)
     (log_of old target.vp kind.Sim) (log_of now target.vp kind.Sim)
 
+-- the host accesses no page but one of a processor
+abbrev pub AccessesOnlyAt : ℕ → Kind → LiveModel → LiveModel → Type 0
+AccessesOnlyAt p k old now =
+    (j : ℕ) → j ≢ overlay_of p k → slice_index_or now.pages j [] ≡ slice_index_or old.pages j []
+
 -- the host accesses no page but that of a port's source, and none if the port is not open
 abbrev pub AccessesOnly : ℕ → Kind → LiveModel → LiveModel → Type 0
 AccessesOnly port k old now =
-    ((target : Port) → port_at (ports_of old.board.state) port ≡ Some target
-    → (j : ℕ) → j ≢ overlay_of target.vp k → slice_index_or now.pages j [] ≡ slice_index_or old.pages j [])
+    ((target : Port) → port_at (ports_of old.board.state) port ≡ Some target → AccessesOnlyAt target.vp k old now)
     × (port_at (ports_of old.board.state) port ≡ None → now.pages ≡ old.pages)
 
 -- before an EOM of a processor on the board, the host probes the slots of the sources that wait, if the guest sees
@@ -51,10 +55,11 @@ HasProbedAt p old now =
 abbrev pub IsIdleAt : ℕ → LiveModel → LiveModel → Type 0
 IsIdleAt p old now = NoneQueued old.board.state p → now.pages ≡ old.pages
 
--- an EOM of a processor
+-- an EOM of a processor, which accesses no page but its message page
 abbrev pub IsEnded : ℕ → LiveModel → Event → LiveModel → Reply → List Notice → Type 0
 IsEnded p old event now reply notices =
     IsLive old event now reply notices × HasProbedAt p old now × IsIdleAt p old now
+    × AccessesOnlyAt p kind.Sim old now
 
 -- the EOM that the board performs for a processor
 abbrev pub eom_by : ℕ → Event

@@ -96,6 +96,13 @@ AreCareful k (Load w found ∷ news) log = AreCareful k news log
 AreCareful k (FetchOr w mask found ∷ news) log = AreCareful k news log
 AreCareful k (Store w value ∷ news) log = MayStore k (known (news ++ log)) w × AreCareful k news log
 
+-- what some accesses found is in words of one page
+abbrev pub FindInPage : List Access → Type 0
+FindInPage [] = Unit {0}
+FindInPage (Load w found ∷ news) = (w < 512) × FindInPage news
+FindInPage (FetchOr w mask found ∷ news) = (w < 512) × FindInPage news
+FindInPage (Store w value ∷ news) = FindInPage news
+
 -- the accesses of the host to one page of an own page during a call
 abbrev pub log_of : LiveModel → ℕ → Kind → List Access
 log_of m p k = slice_index_or m.pages (overlay_of p k) []
@@ -112,6 +119,9 @@ pub record IsLive (old : LiveModel) (event : Event) (now : LiveModel) (reply : R
   pub run : run_of old.board.state (explained old.board.state vp kind news (log_of old vp kind) ++ event ∷ [])
       ≡ (now.board.state, all_done (explained old.board.state vp kind news (log_of old vp kind)) ++ reply ∷ [], notices)
   pub careful : IsShown old.board.state vp kind → AreCareful kind news (log_of old vp kind)
+  pub within : FindInPage news
+  pub hidden : (IsShown old.board.state vp kind → ⊥)
+      → explained old.board.state vp kind news (log_of old vp kind) ≡ []
 
 -- a live board performs an event without an access to a live page
 pub record IsQuietly (old : LiveModel) (event : Event) (now : LiveModel) (reply : Reply)
@@ -325,6 +335,7 @@ pub record IsTicked (old : LiveModel) (moment : ℕ) (now : LiveModel) (reply : 
   pub logs : (p : ℕ) → p < processors old.board.state
       → log_of now p kind.Sim ≡ marks p ++ (stores p ++ (looks p ++ log_of old p kind.Sim))
   pub flags : (p : ℕ) → log_of now p kind.Sief ≡ log_of old p kind.Sief
+  pub size : length now.pages ≡ length old.pages
   pub names : now.names ≡ old.names
   pub run : run_of old.board.state
       (looked_from old.board.state old.pages looks 0 (processors old.board.state)

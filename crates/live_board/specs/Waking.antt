@@ -1,33 +1,22 @@
 -- The guest's wake-up for a message that stays queued (TLFS, "Message Delivery"): it finds MessagePending in the slot
 -- that it empties.
-use Rattle.std.specs.Prelude.{◌≡◌, ◌≢◌, ◌⊎◌, ℕ, ◌==◌, ◌||◌, ◌++◌, Bool, true, false, List, [], ◌∷◌}
+use Rattle.std.specs.Prelude.{◌≡◌, ◌≢◌, ◌⊎◌, ℕ, ◌++◌, Bool, true, false, List, [], ◌∷◌}
 use Rattle.board_terms.specs.declared.pages.Kind.TheVariants.{Sim}
 use Rattle.message_queues.specs.Queues.{queue_of}
 use Rattle.live_pages.specs.Slot.{known, header, type_of, is_pending}
 use Rattle.live_pages.specs.declared.access.Turn.{Turn}
 use Rattle.live_pages.specs.declared.access.Turn.TheVariants.{ByHost, ByGuest}
-use Rattle.live_pages.specs.Traces.{memory, accesses}
+use Rattle.live_pages.specs.Traces.{memory, accesses, is_of, is_accessed}
 use Rattle.live_pages.specs.Protocol.{idle, cleared}
 use Rattle.live_pages.specs.Headers.{Slot}
 use Rattle.live_pages.specs.declared.access.Access.{Access}
-use Rattle.live_pages.specs.declared.access.Access.TheVariants.{Load, FetchOr, Store}
 use Rattle.live_board.specs.Live.{LiveModel, IsShown, log_of, is_waiting}
-
--- an access to a word, and whether one of some accesses is one
-abbrev pub is_of : ℕ → Access → Bool
-is_of w (Load x found) = w == x
-is_of w (FetchOr x mask found) = w == x
-is_of w (Store x value) = w == x
 
 -- a word that the guest has not stored since the host's last access to it, if there is one
 abbrev pub IsUntouched : ℕ → List Turn → Type 0
 IsUntouched w [] = Unit {0}
 IsUntouched w (ByGuest x value ∷ turns) = (w ≢ x) × IsUntouched w turns
 IsUntouched w (ByHost a ∷ turns) = (is_of w a ≡ true) ⊎ IsUntouched w turns
-
-abbrev pub is_accessed : ℕ → List Access → Bool
-is_accessed w [] = false
-is_accessed w (a ∷ news) = is_of w a || is_accessed w news
 
 -- the host accesses the header of a slot, and the last time it finds or leaves it occupied and with MessagePending. A
 -- guest that empties the slot does it later, and then loads the flags: it finds MessagePending, and writes EOM
@@ -45,10 +34,14 @@ LeavesMarked p i old now =
     IsShown old.board.state p Sim → is_waiting now.board.state p i ≡ true
     → IsLeftMarked i (log_of old p Sim) (log_of now p Sim)
 
--- the same if other messages wait for the source than before the call, unless the processor is owed an EOM
+-- the same if other messages wait for the source than before the call
+abbrev pub LeavesNewMarked : ℕ → ℕ → LiveModel → LiveModel → Type 0
+LeavesNewMarked p i old now =
+    queue_of now.board.state.queues p i ≢ queue_of old.board.state.queues p i → LeavesMarked p i old now
+
+-- and unless the processor is owed an EOM
 abbrev pub LeavesMarkedUnlessOwed : ℕ → ℕ → LiveModel → LiveModel → Bool → Type 0
-LeavesMarkedUnlessOwed p i old now owed =
-    queue_of now.board.state.queues p i ≢ queue_of old.board.state.queues p i → owed ≡ false → LeavesMarked p i old now
+LeavesMarkedUnlessOwed p i old now owed = owed ≡ false → LeavesNewMarked p i old now
 
 -- in a history of a page there was a time in a call, whose accesses follow a log, when the host had accessed the header
 -- of a slot and memory had it occupied and with MessagePending, and since then the host has not accessed it

@@ -22,12 +22,12 @@ ghost use Rattle.live_pages.specs.Headers.{Slot, Step, are_steps, led_to, is_stu
 ghost use Rattle.live_pages.specs.Slot.{known, header};
 ghost use Rattle.live_pages.specs.declared.access.Turn.{Turn};
 ghost use Rattle.live_pages.specs.Traces.{IsHistory, accesses, memory};
-ghost use Rattle.live_board.specs.Acting.{HasLookedAt, HasProbedAt};
+ghost use Rattle.live_board.specs.Acting.{HasLookedAt, HasProbedAt, IsTimedPaid};
 ghost use Rattle.live_board.specs.Hiding.{HidesOnlyWhatWasSettled};
 ghost use Rattle.live_board.specs.Runs.{Call, AreCalls, IsRunOf, notices_of};
 ghost use Rattle.live_board.specs.Settling.{IsSettled};
 ghost use Rattle.live_board.specs.Timers.{is_timer_write};
-ghost use Rattle.live_board.specs.Waking.{IsUntouched, LeavesMarked, LeavesMarkedUnlessOwed, IsLeftMarked, WasMarked, MayFollow};
+ghost use Rattle.live_board.specs.Waking.{IsUntouched, LeavesMarked, LeavesNewMarked, LeavesMarkedUnlessOwed, IsLeftMarked, WasMarked, MayFollow};
 ghost use Rattle.live_board.specs.Live.{LiveModel, Shadows, IsLive, IsQuietly, IsTimed, IsTicked, IsReset, IsObserved, IsOwnStore, IsStored, has_processor, explained, explained_after};
 
 /// Whatever the host finds in a live page, the events that explain it are stores of words of that
@@ -140,7 +140,8 @@ pub fn a_run_of_calls_conserves_messages()
 /// the last access finds or leaves it occupied and with MessagePending. So it is after a post for the
 /// port's source, and after an EOM for each source of the processor (`post`, `eom`); after a write of
 /// a timer or a tick for each source where other messages wait than before, or the processor is owed
-/// an EOM (`timer`, `tick`). Memory has such a header after that access, and only others than the host
+/// an EOM (`timer`, `tick`); and after the write of a timer with this EOM without that exception
+/// (`paid`). Memory has such a header after that access, and only others than the host
 /// write it later (`memory`). So a guest that empties the slot does it later, and finds MessagePending
 /// after its barrier: no steps of the protocol lead from there to a missed wake-up (`protocol`).
 pub fn a_waiting_message_is_marked()
@@ -159,6 +160,11 @@ pub fn a_waiting_message_is_marked()
         → Shadows now.board.state now.pages
         → p < processors old.board.state → i < 16 → is_timer_write (Write p number value) ≡ true
         → IsTimed p old (Write p number value) now reply owed notices → LeavesMarkedUnlessOwed p i old now owed }
+    ensures paid { (old now : LiveModel) (p i number value : ℕ) (reply : Reply) (owed : ℕ) (notices : List Notice)
+        → IsSound old.board.state → HasShape now.board.state → HasRanges now.board.state
+        → Shadows now.board.state now.pages
+        → p < processors old.board.state → i < 16 → is_timer_write (Write p number value) ≡ true
+        → IsTimedPaid p old (Write p number value) now reply owed notices → LeavesNewMarked p i old now }
     ensures tick { (old now : LiveModel) (p i moment : ℕ) (reply : Reply) (owed : ℕ)
         (notices : List Notice) → IsSound old.board.state → HasShape now.board.state → HasRanges now.board.state
         → Shadows now.board.state now.pages

@@ -10,7 +10,7 @@ ghost use Rattle.synic_board.specs.Sound.{IsSound, HasShape};
 ghost use Rattle.synic_board.specs.Step.{step};
 ghost use Rattle.event_ports.specs.Ports.{port_at};
 ghost use Rattle.event_ports.specs.declared.ports.Port.{Port};
-ghost use Rattle.live_board.specs.Acting.{IsEnded, HasPlacedAt, AccessesOnly};
+ghost use Rattle.live_board.specs.Acting.{IsEnded, HasPlacedAt, AccessesOnly, AccessesOnlyAt};
 ghost use Rattle.live_pages.specs.Page.{guest_of};
 ghost use Rattle.live_pages.specs.Traces.{IsGuestLoad, IsGuestStore};
 ghost use Rattle.live_board.specs.Live.{guests_of, IsGuestOf, IsShown, HasLooked, HasProbed, NoneQueued, log_of, IsLive, IsQuietly, IsTimed, IsTicked, IsReset, IsObserved, Shadows};
@@ -361,6 +361,8 @@ impl LiveBoard {
         ensures probed { (p : ℕ) → eom_of self.old.board.state event.now ≡ Some p → IsShown self.old.board.state p Sim
             → HasProbed self.old.board.state p (log_of self.old p Sim) (log_of self.new p Sim) }
         ensures nowhere { eom_of self.old.board.state event.now ≡ None → self.new.pages ≡ self.old.pages }
+        ensures only { (p : ℕ) → eom_of self.old.board.state event.now ≡ Some p
+            → AccessesOnlyAt p Sim self.old self.new }
     {
         let LiveBoard {
             board,

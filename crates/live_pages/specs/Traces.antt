@@ -1,5 +1,5 @@
 -- Histories of a page: the accesses of the host, and what anybody else wrote between them. The last turn is first.
-use Rattle.std.specs.Prelude.{◌≡◌, ℕ, ◌<◌, ◌==◌, ◌++◌, List, [], ◌∷◌, All, length, slice_index, slice_set, bit_or, if◌then◌else◌}
+use Rattle.std.specs.Prelude.{◌≡◌, ℕ, ◌<◌, ◌==◌, ◌||◌, ◌++◌, Bool, false, List, [], ◌∷◌, All, length, slice_index, slice_set, bit_or, if◌then◌else◌}
 use Rattle.std.specs.Int.{bit_at}
 use Rattle.live_pages.specs.declared.access.Access.{Access}
 use Rattle.live_pages.specs.declared.access.Access.TheVariants.{Load, FetchOr, Store}
@@ -37,6 +37,16 @@ abbrev pub writes : List Turn → List (ℕ × ℕ)
 writes [] = []
 writes (ByGuest x value ∷ turns) = (x, value) ∷ writes turns
 writes (ByHost a ∷ turns) = writes turns
+
+-- an access to a word, and whether one of some accesses is one
+abbrev pub is_of : ℕ → Access → Bool
+is_of w (Load x found) = w == x
+is_of w (FetchOr x mask found) = w == x
+is_of w (Store x value) = w == x
+
+abbrev pub is_accessed : ℕ → List Access → Bool
+is_accessed w [] = false
+is_accessed w (a ∷ log) = is_of w a || is_accessed w log
 
 -- accesses of the host alone
 abbrev pub hosts_turns : List Access → List Turn

@@ -28,7 +28,7 @@ use Rattle.live_board.specs.Signals.{signalled_flag}
 use Rattle.live_board.specs.Words.{word_of}
 use Rattle.live_board.specs.Settling.{AreLoads, AreAllLoads}
 use Rattle.live_pages.specs.Page.{Page, GuestModel, guest_of}
-use Rattle.live_board.specs.Live.{guests_of, store_of, explained, all_done, AreCareful, HasLooked, AreReads, ArePlaced, ArePuts, IsStoredAnew, AreLooks, AreStores, AreProbes, IsProbe, is_waiting, IsShown, explained_after, AreMarks, finds_empty, AreTimed, AreDueDirect, looked_from, marked_from, has_processor, AreClears}
+use Rattle.live_board.specs.Live.{guests_of, store_of, explained, all_done, AreCareful, HasLooked, AreReads, ArePlaced, ArePuts, IsStoredAnew, AreLooks, AreStores, AreProbes, IsProbe, is_waiting, IsShown, explained_after, AreMarks, finds_empty, AreTimed, AreDueDirect, looked_from, marked_from, has_processor, AreClears, FindInPage}
 use Rattle.live_board.specs.inside.Pages.{logs_of, names_of}
 
 -- a word that the host found is a guest's store if the reference model has another one
@@ -84,6 +84,8 @@ pub record IsWatched (s : State) (p : ℕ) (k : Kind) (log : List Access) (now :
   pub page : log_now ≡ news ++ log
   pub run : run_of s (explained s p k news log) ≡ (now, all_done (explained s p k news log), notices)
   pub careful : AreCareful k news log
+  pub within : FindInPage news
+  pub hidden : (IsShown s p k → ⊥) → explained s p k news log ≡ []
   pub rest : now ≡ record s { own = now.own; slots = now.slots }
   pub count : length now.own ≡ length s.own
   pub others : LeavesOthers s (overlay_of p k) now
@@ -197,6 +199,8 @@ pub record IsPart (s : State) (p : ℕ) (k : Kind) (log : List Access) (event : 
   pub run : run_of s (explained s p k news log ++ event ∷ [])
       ≡ (now, all_done (explained s p k news log) ++ reply ∷ [], notices)
   pub careful : IsShown s p k → AreCareful k news log
+  pub within : FindInPage news
+  pub hidden : (IsShown s p k → ⊥) → explained s p k news log ≡ []
   pub shadow : IsShadow now (overlay_of p k) log_now
   pub others : LeavesOthers s (overlay_of p k) now
   pub count : length now.own ≡ length s.own

@@ -2,6 +2,7 @@ use Rattle.live_board.proofs.Remembered.{was-marked, never-missed}
 use Rattle.live_board.proofs.Woken.{post-marked, eom-marked}
 use Rattle.live_board.proofs.WokenTicks.{tick-marked}
 use Rattle.live_board.proofs.WokenTimers.{timer-marked}
+use Rattle.live_board.proofs.WokenPaid.{timer-paid-marked}
 use Rattle.live_board.proofs.laws.a_waiting_message_is_marked.Goals as goal
 
 pub returns-clause-post : goal.returns-clause-post
@@ -18,6 +19,9 @@ returns-clause-protocol c = never-missed
 
 pub returns-clause-timer : goal.returns-clause-timer
 returns-clause-timer c = timer-marked
+
+pub returns-clause-paid : goal.returns-clause-paid
+returns-clause-paid c = timer-paid-marked
 
 pub returns-clause-tick : goal.returns-clause-tick
 returns-clause-tick c = tick-marked

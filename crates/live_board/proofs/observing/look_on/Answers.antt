@@ -17,7 +17,8 @@ loop-slot-init c = (
       (32 * c.args.other) c.args.found c.pass.new.board.state ns c.pass.new.notices) c.requires.empty c.pass.ensures
       in
       look-more _ _ _ _ _ _ _ _ _ _ _ o.looks
-      (look-is _ _ _ _ _ _ _ _ _ _ (o.looks.shadow (32 * c.args.other) (omega (arith, o.below))) o.page on)),
+      (look-is _ _ _ _ _ _ _ _ _ _ (omega (arith, o.below)) c.requires.shown
+      (o.looks.shadow (32 * c.args.other) (omega (arith, o.below))) o.page on)),
   refl,
 )
 

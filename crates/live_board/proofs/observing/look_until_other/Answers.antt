@@ -23,7 +23,8 @@ loop-slot-preserved c =
     let same : c.load-found.result ≡ c.word_at.result = search rules in
     let known = c.loop-slot.invariant.0.shadow (32 * c.loop-slot.slot) (omega (arith, c.loop-slot-test.true)) in (
       look-more _ _ _ _ _ _ _ _ _ _ _ c.loop-slot.invariant.0
-          (look-is _ _ _ _ _ _ _ _ _ _ known (logged c.load-found.ensures) (passed-equal _ _ _ _ _ _ (same ∙ here))),
+          (look-is _ _ _ _ _ _ _ _ _ _ (omega (arith, c.loop-slot-test.true)) c.requires.shown known
+          (logged c.load-found.ensures) (passed-equal _ _ _ _ _ _ (same ∙ here))),
       ap (λ (p : Page). p.name) c.load-found.ensures ∙ c.loop-slot.invariant.1,
     )
 

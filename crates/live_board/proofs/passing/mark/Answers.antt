@@ -3,4 +3,6 @@ use Rattle.live_board.proofs.Named.{logged}
 use Rattle.live_board.proofs.passing.mark.Goals as goal
 
 pub returns-clause-mark : goal.returns-clause-mark
-returns-clause-mark c = mark-is _ _ _ _ _ _ _ _ _ _ _ c.requires.known (logged c.fetch_or-found.ensures) c.pass.ensures
+returns-clause-mark c =
+    mark-is _ _ _ _ _ _ _ _ _ _ _ c.requires.word c.requires.shown c.requires.known
+    (logged c.fetch_or-found.ensures) c.pass.ensures

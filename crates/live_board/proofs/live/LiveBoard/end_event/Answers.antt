@@ -4,13 +4,14 @@ use Rattle.synic_board.specs.State.{State}
 use Rattle.live_pages.specs.Page.{Page}
 use Rattle.live_pages.specs.declared.access.Access.{Access}
 use Rattle.std.specs.Prelude.{Some}
+use Rattle.live_board.specs.Acting.{AccessesOnlyAt}
 use Rattle.live_board.specs.Live.{LiveModel, Shadows, IsShown, HasProbed, log_of}
 use Rattle.live_board.specs.inside.Pages.{logs_of}
 use Rattle.live_board.specs.inside.Kinds.{eom_of}
 use Rattle.live_board.proofs.Calm.{not-ended-own}
 use Rattle.live_board.proofs.EndedPart.{eom-on}
-use Rattle.live_board.proofs.Shadowed.{live, probed-at, part-shadows, part-live, untouched-live, same-shadows, part-at, indexed-live}
-use Rattle.live_board.proofs.Named.{log-at, shadows-set, same-at, set-at, model, live-named, probed-named}
+use Rattle.live_board.proofs.Shadowed.{live, probed-at, only-here, part-shadows, part-live, untouched-live, same-shadows, part-at, indexed-live}
+use Rattle.live_board.proofs.Named.{log-at, shadows-set, same-at, set-at, model, live-named, probed-named, only-at-named}
 use Rattle.live_board.proofs.live.LiveBoard.end_event.Goals as goal
 
 pub invariant_of-self : goal.invariant_of-self
@@ -79,3 +80,18 @@ returns-clause-probed c p is =
     (probed-at c.self.inside.board c.end_on.new.board pages (live c.self.inside.board pages) c.in-Some.vp
     c.index_of.result c.index_mut-page.result.now.log c.end_on.new.page.log refl c.index_of.ensures there page
     c.end_on.ensures.probed))
+
+pub returns-clause-only : goal.returns-clause-only
+returns-clause-only c p is =
+    let s : State = c.self.inside.board.state in
+    let items : List Page = c.self.inside.pages.items in
+    let at = λ (m : LiveModel). eom_of m.board.state c.args.event.now ≡ Some p in
+    let here : eom_of s c.args.event.now ≡ Some p = subst at (sym c.self.view_is) is in
+    let same : c.in-Some.vp ≡ p = search rules in
+    subst (λ n. AccessesOnlyAt n Sim c.args.self.now
+    (model c.end_on.new.board (set items c.index_of.result c.end_on.new.page))) same
+    (set-at (only-at-named c.in-Some.vp Sim) c.self.inside.board c.end_on.new.board items c.args.self.now
+    c.index_of.result c.index_mut-page.result.now
+    c.end_on.new.page c.self.view_is c.index_mut-page.ensures.value c.end_on.ensures.name
+    (only-here c.self.inside.board c.end_on.new.board (logs_of items) c.in-Some.vp c.index_of.result Sim
+    c.end_on.new.page.log c.index_of.ensures))

@@ -1,0 +1,4 @@
+pub mod Stores
+pub mod Calls
+pub mod Pages
+pub mod Apart

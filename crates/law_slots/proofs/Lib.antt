@@ -1,0 +1,11 @@
+mod Kept
+mod Headers
+mod Runs
+mod Ranks
+mod Counts
+mod Views
+mod Effects
+mod Memory
+mod Flicker
+mod Rounds
+mod Reading

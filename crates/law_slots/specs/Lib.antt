@@ -1,0 +1,4 @@
+pub mod Slots
+pub mod Pages
+pub mod Rounds
+pub mod Reading
