@@ -266,8 +266,10 @@ class Page:
 
     def declare(self, entry):
         self.text += entry.comment
-        self.rigid = set()
+        self.rigid, begin = set(), len(self.text)
         getattr(self, "declare_" + entry.kind)(entry, spelled(entry.id[1]))
+        if library.short(entry.id) in library.SHUT:
+            self.text[begin:] = ["abstract"] + ["  " + line for line in self.text[begin:]]
         self.text.append("")
 
     def declare_synonym(self, entry, name):
