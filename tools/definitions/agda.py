@@ -52,7 +52,7 @@ class Page:
         self.imports = {}       # module of Agda: {name there: name here}
         self.whole = set()      # modules that are imported without names
         self.taken = {}         # name here: the key that it means
-        self.text = []
+        self.text, self.rigid = [], set()
 
     # names
 
@@ -333,6 +333,10 @@ class Page:
             self.text += comment
             left = " ".join([name] + implicit + [self.pattern(p) for p in patterns])
             self.text.append(wrapped(text, left + " = "))
+
+    def state(self, statement):
+        name = spelled(statement.name)
+        self.text += [*statement.comment, name + " : Set", wrapped(self.expression(statement.e), name + " = "), ""]
 
     # the whole
 
