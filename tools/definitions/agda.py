@@ -212,16 +212,8 @@ class Page:
         text = self.expression(e[2], ATOM)
         if e[1][0] == "record":
             return self.paren("%s.%s %s" % (self.name(("def", e[1][1])), spelled(e[3]), text), level, APPLICATION)
-        if e[1][0] == "tuple":
-            at, bound = int(e[3]), [False] * (e[1][1] - 1)
-        else:
-            entry = self.program.entries[e[1][1]]
-            names = [field[0] for field in entry.fields]
-            at, bound = names.index(e[3]), [name in entry.bound for name in names[:-1]]
-        for is_bound in bound[:at]:
-            text = "(%s %s)" % (self.given("proof" if is_bound else "snd"), text)
-        for is_bound in bound[at:at + 1]:
-            text = "(%s %s)" % (self.given("witness" if is_bound else "fst"), text)
+        for word in self.program.steps(e[1], e[3]):
+            text = "(%s %s)" % (self.given(word), text)
         return text if level > APPLICATION else text[1:-1]
 
     def write_rec(self, e, level):

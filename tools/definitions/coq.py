@@ -21,6 +21,7 @@ TYPES = {"ℕ": "nat", "Bool": "bool", "List": "list", "Option": "option", "Text
          "⊥": "Empty_set"}
 SIGNS = {"∷": "::", "%": "mod", "==": "=?", "≡": "="}
 PREDICATES = {"≤": "Prelude.at_most", "<": "Prelude.below", "≢": "Prelude.differ", "⊎": "sum", "↔": "Prelude.equivalent"}
+PARTS = {"witness": "projT1", "proof": "projT2"}
 HEAD = """Require Import NArith Arith Bool List String.
 Require Prelude.
 Set Warnings "-unused-pattern-matching-variable".
@@ -156,16 +157,8 @@ class Page:
         text = self.expression(e[2])
         if e[1][0] == "record":
             return "(%s %s)" % (self.field(e[1][1], e[3]), text)
-        if e[1][0] == "tuple":
-            at, bound = int(e[3]), [False] * (e[1][1] - 1)
-        else:
-            entry = self.program.entries[e[1][1]]
-            names = [field[0] for field in entry.fields]
-            at, bound = names.index(e[3]), [name in entry.bound for name in names[:-1]]
-        for is_bound in bound[:at]:
-            text = "(%s %s)" % ("projT2" if is_bound else "snd", text)
-        for is_bound in bound[at:at + 1]:
-            text = "(%s %s)" % ("projT1" if is_bound else "fst", text)
+        for word in self.program.steps(e[1], e[3]):
+            text = "(%s %s)" % (PARTS.get(word, word), text)
         return text
 
     def write_rec(self, e):
