@@ -2,6 +2,7 @@
 #   make [all]               the proved program, and the library for C
 #   make install PREFIX=DIR  both, with the tools and documents, below DIR (/usr/local)
 #   make definitions         the definitions in Agda, checked by it, and a program of them, in build/definitions
+#   make coq                 the same in Coq, in build/coq
 #   make guest               the conformance suite as a guest, in build/guest (docs/CONFORMANCE.md)
 #   make package, make test  as ./package and ./test
 PREFIX ?= /usr/local
@@ -20,6 +21,9 @@ install:
 definitions:
 	tools/definitions/build build/definitions
 
+coq:
+	tools/definitions/build_coq build/coq
+
 guest:
 	conformance/guest/image build/guest
 
@@ -29,5 +33,5 @@ package:
 test:
 	./test
 
-.PHONY: all synicboard library install definitions guest package test
+.PHONY: all synicboard library install definitions coq guest package test
 .NOTPARALLEL:

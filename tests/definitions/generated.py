@@ -58,12 +58,19 @@ def wide(seed):
 
 
 def changed(texts, seed):
-    """One of these texts, with up to three bytes changed, put in or left out, or cut."""
+    """One of these texts, with up to three bytes or lines changed, put in or left out, or cut."""
     r = random.Random(seed)
     text = bytearray(r.choice(texts))
     for _ in range(r.choice((1, 1, 2, 3))):
         at = r.randrange(len(text) + 1)
         byte = r.choice((*b"\0\t\n\r  #-019AFafgx\x80\xff", r.randrange(256)))
         text = r.choice((text[:at] + bytes([byte]) + text[at + 1:], text[:at] + bytes([byte]) + text[at:],
-                         text[:at] + text[at + 1:], text[:at]))
+                         text[:at] + text[at + 1:], text[:at], with_lines_changed(r, text)))
     return bytes(text)
+
+
+def with_lines_changed(r, text):
+    """The text with a line left out, twice, or in place of another one."""
+    lines = text.splitlines(True) or [b""]
+    line, at = r.choice(lines), r.randrange(len(lines))
+    return b"".join(lines[:at] + r.choice(([], [line], [line, lines[at]])) + lines[at + 1:])

@@ -1,27 +1,44 @@
-"""Mutants of the definitions: each differs from the definitions in some stored output, or the comparison looks at too
+"""Mutants of the definitions: each differs from the definitions in a stored output, or the comparison looks at too
 little. All are in one program, in which Chosen.agda chooses one by the environment."""
 
 import os
 import shutil
 
-# The file below crates/, a clause with {} for an expression, the expression, and the mutant's.
+# The file below crates/, a clause with {} for an expression, the expression, and the mutant's; and a script whose stored
+# output shows it.
 MUTANTS = (
-    ("stimer_bank/specs/Timer.antt", "if {} then", "nat_le k 8", "nat_le k 9"),
-    ("stimer_bank/specs/Bank.antt", "{}", "nat_lt d e", "nat_lt e d"),
-    ("lapic_core/specs/Apic.antt", "class v = {}", "v / 16", "v / 32"),
-    ("message_queues/specs/Queues.antt", "{}", "(queue_of qs p i ++ m ∷ [])", "(m ∷ queue_of qs p i)"),
-    ("event_ports/specs/Ports.antt", "buffers_of shape) {}", "256", "255"),
-    ("gpa_space/specs/Space.antt", "{}", "overlay % 2 == 0", "overlay % 2 == 1"),
-    ("synic_regs/specs/Registers.antt", "{}", "nat_le n 0x400000b7", "nat_le n 0x400000b6"),
-    ("board_terms/specs/Dues.antt", "{}", "nat_lt x.0 r.0", "nat_lt r.0 x.0"),
-    ("synic_board/specs/Timers.antt", "most_expiries = {}", "32", "31"),
-    ("synic_board/specs/Stores.antt", "consumed_below s p {}", "16", "15"),
-    ("synic_board/specs/Posts.antt", "{}", "0xffffffffffffffff", "0xfffffffffffffffe"),
-    ("synic_board/specs/Interrupts.antt", "{}", "value % 256", "value % 128"),
-    ("synic_board/specs/Resetting.antt", "emptied_below s p {}", "16", "15"),
-    ("text_lines/specs/Printing.antt", "++ {})", "numbered queue_lines 0 values.queued", "numbered queue_lines 1 values.queued"),
-    ("text_lines/specs/Reading.antt", "u8_at = {}", "decimal_at 255", "decimal_at 256"),
-    ("text_image/specs/Image.antt", "each_below (processors s) {}", "(timers_lines s)", "(queues_lines s)"),
+    ("stimer_bank/specs/Timer.antt", "if {} then", "nat_le k 8", "nat_le k 9",
+     "cases/replay/nine-periods-late-skips-one"),
+    ("stimer_bank/specs/Bank.antt", "{}", "nat_lt d e", "nat_lt e d",
+     "conformance/one-shot/by-deadline-across-processors"),
+    ("lapic_core/specs/Apic.antt", "class v = {}", "v / 16", "v / 32",
+     "cases/replay/priority-classes-and-end-of-interrupt"),
+    ("message_queues/specs/Queues.antt", "{}", "(queue_of qs p i ++ m ∷ [])", "(m ∷ queue_of qs p i)",
+     "cases/replay/post-behind-a-queue-places-the-head"),
+    ("event_ports/specs/Ports.antt", "buffers_of shape) {}", "256", "255",
+     "conformance/many-processors/256-buffers"),
+    ("gpa_space/specs/Space.antt", "{}", "overlay % 2 == 0", "overlay % 2 == 1",
+     "cases/replay/reset-withdraws-no-message-that-was-consumed"),
+    ("synic_regs/specs/Registers.antt", "{}", "nat_le n 0x400000b7", "nat_le n 0x400000b6",
+     "conformance/registers/timers-after-reset"),
+    ("board_terms/specs/Dues.antt", "{}", "nat_lt x.0 r.0", "nat_lt r.0 x.0",
+     "cases/replay/reset-stops-the-timers"),
+    ("synic_board/specs/Timers.antt", "most_expiries = {}", "32", "31",
+     "conformance/many-processors/the-earliest-32-expire"),
+    ("synic_board/specs/Stores.antt", "consumed_below s p {}", "16", "15",
+     "cases/replay/numbers-at-their-limits"),
+    ("synic_board/specs/Posts.antt", "{}", "0xffffffffffffffff", "0xfffffffffffffffe",
+     "cases/replay/last-ticket-goes-to-a-post"),
+    ("synic_board/specs/Interrupts.antt", "{}", "value % 256", "value % 128",
+     "conformance/priorities/tpr-of-the-highest-class"),
+    ("synic_board/specs/Resetting.antt", "emptied_below s p {}", "16", "15",
+     "conformance/reset/messages-of-each-source"),
+    ("text_lines/specs/Printing.antt", "++ {})", "numbered queue_lines 0 values.queued", "numbered queue_lines 1 values.queued",
+     "cases/replay/occupied-slot-queues-and-refuses-beyond-its-buffers"),
+    ("text_lines/specs/Reading.antt", "u8_at = {}", "decimal_at 255", "decimal_at 256",
+     "cases/replay/board-number-above-255-is-no-board-line"),
+    ("text_image/specs/Image.antt", "each_below (processors s) {}", "(timers_lines s)", "(queues_lines s)",
+     "cases/save/storm"),
 )
 
 
@@ -32,7 +49,7 @@ def copied(root, folder):
             source = os.path.join(root, "crates", crate, part)
             if os.path.isdir(source):
                 shutil.copytree(source, os.path.join(folder, "crates", crate, part))
-    for number, (file, clause, old, new) in enumerate(MUTANTS):
+    for number, (file, clause, old, new, _) in enumerate(MUTANTS):
         planted(os.path.join(folder, "crates", file), number, clause, old, new)
 
 

@@ -1,82 +1,100 @@
 {-# OPTIONS --safe #-}
--- Whether a text is a legal trace. text-history says which texts are; each text has one candidate for the history, which
--- is written down here: the events of its entry lines, each with the reply that `step` gives. The text is a legal trace
--- if it is, byte for byte, the trace of this history. Of another text the number of the wrong line is not computed.
+-- Whether a text is a legal trace, and otherwise its first wrong line: text-history says which texts are, and here each
+-- line is compared with what may come next. An image is decided by Restored.agda; nothing is proved of the rest.
 module Checked where
 
 open import Prelude
-open import Restored using (restored)
+open import Decided
+open import Restored using (follows)
 open import core.Option using (option-and-then; option-map)
 open import core.Str using (bytes-eq)
 open import lib.ListN using (length)
 open import synic-board.State using (State)
 open import synic-board.Step using (step)
 open import synic-board.declared.event.Event using (Event)
-open import synic-board.declared.history.Entry using (Entry)
-open import text-base.Fields using (fields-of; line-of; spaced)
+open import synic-board.declared.event.Reply using (Reply)
+open import text-base.Fields using (fields-of; spaced)
 open import text-base.Lines using (joined; lines-of)
-open import text-history.Trace using (has-line; may-open; may-restore; title-fields; trace)
+open import text-history.Trace using (end-fields; has-line; may-open; may-restore; title-fields)
 open import text-history.declared.format.Format using (Format; One; Two; Three; Four; Five)
-open import text-image.Image using (image)
-open import text-lines.Items using (Item; Opening)
+open import text-lines.Items using (Item)
+open import text-lines.Printing using (reply-fields)
 open import text-lines.Reading using (item-at; parse-event; u8-at)
 open import text-lines.Sizes using (are-sizes; opened-by)
+open import text-restore.Restoring using (Body; Untitled) renaming (Stage to ImageStage)
+open import text-restore.Taking using (has-ended)
 open import text-trace.Verdicts using (verdict-text)
 open import text-trace.declared.check.Verdict using (Verdict)
 
-title : List Format → List ℕ → Option Format
+-- what comes next
+data Stage : Set where
+  -- the title
+  Title : Stage
+  -- the board line, or an image
+  Opening : Format → Stage
+  -- a line of the image, of which these were read
+  Image : Format → ImageStage → Stage
+  -- an entry or the end, after that many entries
+  Entry : Format → State → ℕ → Stage
+  -- the line of this reply
+  Answer : Format → State → ℕ → Reply → Stage
+  -- nothing
+  Over : ℕ → Stage
+
+if-same : List ℕ → List (List ℕ) → Stage → Option Stage
+if-same line fields stage = if bytes-eq line (spaced fields) then Some stage else None
+
+or-else : Option Stage → Option Stage → Option Stage
+or-else None other = other
+or-else first other = first
+
+title : List Format → List ℕ → Option Stage
 title [] line = None
-title (f ∷ formats) line = if bytes-eq line (spaced (title-fields f)) then Some f else title formats line
+title (f ∷ formats) line = or-else (if-same line (title-fields f) (Opening f)) (title formats line)
 
--- the actor and the event of an entry line
-entry : Format → List (List ℕ) → Option (ℕ × Event)
-entry f [] = None
-entry f (actor ∷ fields) =
-  option-and-then (λ n → option-and-then (λ e → if has-line f e then Some (n , e) else None) (parse-event fields)) (u8-at actor)
+board : Format → Option Item → Option Stage
+board f (Some (Item.Opening processors pages ticket)) =
+  if may-open f pages && are-sizes processors pages then Some (Entry f (opened-by processors pages ticket) 0) else None
+board f item = None
 
--- the history of entry lines, each with the line of a reply after it, up to the end line
-history : Format → State → List (List ℕ) → Option (List Entry)
-history f s [] = None
-history f s (end ∷ []) = Some []
-history f s (line ∷ reply ∷ lines) = option-and-then answered (entry f (fields-of line))
+-- after the end of an image its board is there
+entered : Format → ImageStage → Stage
+entered f (Body s last lapics) = if has-ended (Body s last lapics) then Entry f s 0 else Image f (Body s last lapics)
+entered f stage = Image f stage
+
+image-line : Format → ImageStage → List ℕ → Option Stage
+image-line f stage line with follows stage line
+... | found new p = Some (entered f new)
+... | none p = None
+
+performed : Format → State → ℕ → Event → Stage
+performed f s entries event = share (step s event) λ outcome →
+  Answer f (fst outcome) (entries + 1) (fst (snd outcome))
+
+-- the line of an entry has the number of an actor, and an event that has a line in this format
+entry : Format → State → ℕ → List (List ℕ) → Option Stage
+entry f s entries [] = None
+entry f s entries (actor ∷ fields) = option-and-then (λ n → option-and-then event (parse-event fields)) (u8-at actor)
   where
-  answered : ℕ × Event → Option (List Entry)
-  answered (n , e) = share (step s e) λ outcome →
-    option-map (λ rest → record { actor = n ; event = e ; reply = fst (snd outcome) } ∷ rest) (history f (fst outcome) lines)
+  event : Event → Option Stage
+  event e = if has-line f e then Some (performed f s entries e) else None
 
--- the number of entries, if the text is the trace of its candidate
-counted : List ℕ → Format → List ℕ → List (List ℕ) → State → Option ℕ
-counted text f beginning lines s =
-  option-and-then (λ h → if bytes-eq text (trace f beginning s h) then Some (length h) else None) (history f s lines)
+next : Stage → List ℕ → Option Stage
+next Title line = title (One ∷ Two ∷ Three ∷ Four ∷ Five ∷ []) line
+next (Opening f) line = or-else (board f (item-at line)) (if may-restore f then image-line f Untitled line else None)
+next (Image f stage) line = image-line f stage line
+next (Entry f s entries) line =
+  or-else (if-same line (end-fields f entries (State.next-ticket s)) (Over entries)) (entry f s entries (fields-of line))
+next (Answer f s entries reply) line = if-same line (reply-fields reply) (Entry f s entries)
+next (Over entries) line = None
 
--- the lines of an image, to its end line, and the lines after it
-to-end : List (List ℕ) → List (List ℕ) × List (List ℕ)
-to-end [] = [] , []
-to-end (line ∷ lines) =
-  if bytes-eq line (codes "end") then (line ∷ []) , lines else share (to-end lines) λ rest → (line ∷ fst rest) , snd rest
-
--- a trace that begins with an image, which has to be the one that its board saves; whether a board can have this state
--- is not computed
-from-image : List ℕ → Format → List (List ℕ) × List (List ℕ) → Option ℕ
-from-image text f (lines , rest) = option-and-then begun (restored (joined lines))
-  where
-  begun : State → Option ℕ
-  begun s = if may-restore f && bytes-eq (joined lines) (image s) then counted text f (joined lines) rest s else None
-
-opening : List ℕ → Format → Option Item → List ℕ → List (List ℕ) → Option ℕ
-opening text f (Some (Opening processors pages ticket)) line rest =
-  if may-open f pages && are-sizes processors pages then counted text f (line ++ 10 ∷ []) rest (opened-by processors pages ticket)
-  else None
-opening text f item line rest = from-image text f (to-end (line ∷ rest))
-
-legal : List ℕ → List (List ℕ) → Option ℕ
-legal text (first ∷ line ∷ rest) =
-  option-and-then (λ f → opening text f (item-at line) line rest) (title (One ∷ Two ∷ Three ∷ Four ∷ Five ∷ []) first)
-legal text lines = None
-
-verdict : Option ℕ → List ℕ
-verdict (Some n) = verdict-text (Verdict.Legal n)
-verdict None = codes "refused\n"
+-- the verdict after n lines, where lines are left, and whether the text ends with a whole line
+verdict : Bool → ℕ → Stage → List (List ℕ) → Verdict
+verdict is-whole n (Over entries) [] = if is-whole then Verdict.Legal entries else Verdict.Refused (n + 1)
+verdict is-whole n stage [] = Verdict.Refused (n + 1)
+verdict is-whole n stage (line ∷ lines) with next stage line
+... | Some new = verdict is-whole (n + 1) new lines
+... | None = Verdict.Refused (n + 1)
 
 check : List ℕ → List ℕ
-check text = verdict (legal text (lines-of text))
+check text = share (lines-of text) λ lines → verdict-text (verdict (bytes-eq text (joined lines)) 0 Title lines)

@@ -15,7 +15,11 @@ check = Checked.check
 replay-from : List ℕ → List ℕ → List ℕ
 replay-from = Restored.replay-from
 
+complaint : List ℕ → List ℕ
+complaint = Restored.complaint
+
 {-# COMPILE GHC replay as replay #-}
 {-# COMPILE GHC save as save #-}
 {-# COMPILE GHC check as check #-}
 {-# COMPILE GHC replay-from as replayFrom #-}
+{-# COMPILE GHC complaint as complaint #-}

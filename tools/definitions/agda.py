@@ -52,7 +52,7 @@ class Page:
         self.imports = {}       # module of Agda: {name there: name here}
         self.whole = set()      # modules that are imported without names
         self.taken = {}         # name here: the key that it means
-        self.text = []
+        self.text, self.rigid = [], set()
 
     # names
 
@@ -212,16 +212,8 @@ class Page:
         text = self.expression(e[2], ATOM)
         if e[1][0] == "record":
             return self.paren("%s.%s %s" % (self.name(("def", e[1][1])), spelled(e[3]), text), level, APPLICATION)
-        if e[1][0] == "tuple":
-            at, bound = int(e[3]), [False] * (e[1][1] - 1)
-        else:
-            entry = self.program.entries[e[1][1]]
-            names = [field[0] for field in entry.fields]
-            at, bound = names.index(e[3]), [name in entry.bound for name in names[:-1]]
-        for is_bound in bound[:at]:
-            text = "(%s %s)" % (self.given("proof" if is_bound else "snd"), text)
-        for is_bound in bound[at:at + 1]:
-            text = "(%s %s)" % (self.given("witness" if is_bound else "fst"), text)
+        for word in self.program.steps(e[1], e[3]):
+            text = "(%s %s)" % (self.given(word), text)
         return text if level > APPLICATION else text[1:-1]
 
     def write_rec(self, e, level):
@@ -266,8 +258,10 @@ class Page:
 
     def declare(self, entry):
         self.text += entry.comment
-        self.rigid = set()
+        self.rigid, begin = set(), len(self.text)
         getattr(self, "declare_" + entry.kind)(entry, spelled(entry.id[1]))
+        if library.short(entry.id) in library.SHUT:
+            self.text[begin:] = ["abstract"] + ["  " + line for line in self.text[begin:]]
         self.text.append("")
 
     def declare_synonym(self, entry, name):
@@ -331,6 +325,10 @@ class Page:
             self.text += comment
             left = " ".join([name] + implicit + [self.pattern(p) for p in patterns])
             self.text.append(wrapped(text, left + " = "))
+
+    def state(self, statement):
+        name = spelled(statement.name)
+        self.text += [*statement.comment, name + " : Set", wrapped(self.expression(statement.e), name + " = "), ""]
 
     # the whole
 

@@ -4,7 +4,6 @@ and a body is a claim about calls of the code, and no statement about the defini
 import os
 import re
 
-import agda
 import rust
 from inference import Inference
 from modules import Module, use
@@ -50,15 +49,13 @@ def of_file(program, crate, path, inner, complaints):
                             ["--" + line[3:] for line in comment.splitlines()])
 
 
-def pages(program, found, options):
-    """A module of Agda for each file with theorems, whose definitions are their statements."""
+def pages(program, found, language):
+    """A module for each file with theorems, whose definitions are their statements, with its source."""
     of = {}
     for statement in found:
         of.setdefault(statement.module.name, []).append(statement)
-    for name, group in of.items():
-        page = agda.Page(program, group[0].module)
-        page.rigid = set()
+    for group in of.values():
+        page = language.Page(program, group[0].module)
         for statement in group:
-            word = agda.spelled(statement.name)
-            page.text += [*statement.comment, word + " : Set", agda.wrapped(page.expression(statement.e), word + " = "), ""]
-        yield agda.module_name(name), page.whole_text(os.path.relpath(group[0].module.path, program.root), options)
+            page.state(statement)
+        yield page, os.path.relpath(group[0].module.path, program.root)

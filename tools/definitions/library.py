@@ -70,6 +70,9 @@ LEFT_OUT = {
     "text_base.Fields.TakesField": "its argument is a borrow, whose model is part of the toolchain's logic",
 }
 
+# What Agda keeps shut outside its module: it would count numbers such as 65536 * p down by one to compare them.
+SHUT = {"text_restore.Restoring.rank"}
+
 # How many constructors of the types above take as arguments: these words may be patterns.
 CONSTRUCTORS = {"zero": 0, "suc": 1, "true": 0, "false": 0, "[]": 0, "◌∷◌": 2, "Some": 1, "None": 0, "Ok": 1, "Err": 1}
 # Words without a `use` line.
@@ -92,6 +95,11 @@ def given(module, word):
 
 TYPES = {word: t for words in GIVEN.values() for word, t in words.items() if isinstance(t, int)}
 VALUES = {given(module, word)[1]: t for module, words in GIVEN.items() for word, t in words.items() if isinstance(t, tuple)}
+
+
+def short(id):
+    """A name as LEFT_OUT and SHUT have it."""
+    return ".".join(id[0].split(".")[1::2] + [id[1]])
 
 
 def canonical(home, name):

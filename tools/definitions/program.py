@@ -260,6 +260,17 @@ class Program:
 
     # what expressions need
 
+    def steps(self, of, field):
+        """The words ('fst', 'snd', 'witness' or 'proof') that lead to a part of a tuple or a predicate, the first one first."""
+        if of[0] == "tuple":
+            at, bound = int(field), [False] * (of[1] - 1)
+        else:
+            entry = self.entries[of[1]]
+            names = [name for name, *_ in entry.fields]
+            at, bound = names.index(field), [name in entry.bound for name in names[:-1]]
+        return ["proof" if is_bound else "snd" for is_bound in bound[:at]] + [
+            "witness" if is_bound else "fst" for is_bound in bound[at:at + 1]]
+
     def constructor(self, key):
         """The type of a constructor, or None if the key is of something else."""
         if key[0] == "given":
