@@ -328,7 +328,7 @@ alone-reset-of true p q old now reply notices sound none h =
 alone-reset-of false p q old now reply notices sound none h =
     alone-quiet q old now (Reset p) reply notices sound none h
 
-page-count : (q : ℕ) (m : LiveModel) → IsReady q m → 2 * q + 1 < length m.pages
+pub page-count : (q : ℕ) (m : LiveModel) → IsReady q m → 2 * q + 1 < length m.pages
 page-count q m ready = omega (arith, ready.shadows.count, ready.shape.overlays, ready.on)
 
 -- any event

@@ -2,7 +2,7 @@
 use Rattle.std.proofs.Common.{◌≡◌, ◌≢◌, ◌⊎◌, inl, inr, ℕ, zero, suc, ◌+◌, ◌*◌, ◌<◌, Bool, true, false, List, [], ◌∷◌, ◌++◌, length, get_or, set, refl, sym, ap, ◌∙◌, subst, arith, All, append_assoc, length-append, length-set}
 use Rattle.std.specs.Prelude.{◌==◌}
 use Rattle.std.proofs.lemmas.Bool.{cases_eq}
-use Rattle.std.proofs.lemmas.List.{get_or-set_same, get_or-set_other}
+use Rattle.std.proofs.lemmas.List.{append_cancel_right, get_or-set_same, get_or-set_other}
 use Rattle.std.proofs.lemmas.List.Elements.{All-append, All-cons, All-nil}
 use Rattle.board_terms.specs.declared.notices.Notice.{Notice}
 use Rattle.board_terms.specs.declared.pages.Kind.{Kind}
@@ -99,11 +99,6 @@ pub only-beside : (p q : ℕ) (k kind : Kind) (old now : LiveModel) → p ≢ q 
     → log_of now q kind ≡ log_of old q kind
 only-beside p q k kind old now ne only = only (overlay_of q kind) (other-overlay p q k kind ne)
 
-nothing-before : (news log : List Access) → news ++ log ≡ log → news ≡ []
-nothing-before [] log is = refl
-nothing-before (a ∷ news) log is =
-    absurd (omega (arith, ap length is, length-append (a ∷ news) log))
-
 -- an event with accesses to one page, which is not one of the processor's
 pub alone-live : (q : ℕ) (old now : LiveModel) (event : Event) (reply : Reply) (notices : List Notice)
     → IsSound old.board.state → PayloadFits event → 2 * q + 1 < length old.pages
@@ -134,7 +129,7 @@ alone-live q old now event reply notices sound fits size live pages apart =
         let there : log_of now live.vp live.kind ≡ live.news ++ log =
         ap (λ (ps : List (List Access)). get_or ps (overlay_of live.vp live.kind) []) live.pages
         ∙ get_or-set_same old.pages (overlay_of live.vp live.kind) (live.news ++ log) [] low in
-        nothing-before live.news log (sym there
+        append_cancel_right live.news [] log (sym there
         ∙ subst (λ n. log_of now n live.kind ≡ log_of old n live.kind) (sym e) (pages live.kind))
 
     first : Untouched s es q × Rest s (run_of s es).0
