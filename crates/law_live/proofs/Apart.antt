@@ -1,8 +1,7 @@
 -- Any call leaves alone what it may not touch.
-use Rattle.std.proofs.Common.{◌≡◌, ◌≢◌, ◌⊎◌, inl, inr, ℕ, zero, suc, ◌+◌, ◌*◌, ◌/◌, ◌<◌, ◌≤◌, Bool, true, false, List, [], ◌∷◌, ◌++◌, length, get_or, Option, Some, None, refl, sym, ap, ◌∙◌, subst, arith, All}
+use Rattle.std.proofs.Common.{◌≡◌, ◌≢◌, ◌⊎◌, inl, inr, ℕ, zero, suc, ◌+◌, ◌*◌, ◌/◌, ◌<◌, Bool, true, false, List, [], ◌∷◌, ◌++◌, length, get_or, Option, Some, None, refl, sym, ap, ◌∙◌, subst, arith}
 use Rattle.std.specs.Prelude.{◌==◌, ◌&&◌, ◌||◌, nat_lt}
 use Rattle.std.specs.Option.{option_map_or}
-use Rattle.std.proofs.lemmas.Bool.{cases_eq, cases_lt}
 use Rattle.std.proofs.lemmas.Bool.Decides.{nat_tests}
 use Rattle.std.proofs.lemmas.List.Elements.{All-append, All-cons, All-nil}
 use Rattle.board_terms.specs.Dues.{number_of}
@@ -13,8 +12,8 @@ use Rattle.deadline_tree.specs.Deadlines.{has_due, is_due_by}
 use Rattle.event_ports.specs.declared.ports.Port.{Port}
 use Rattle.event_ports.specs.Ports.{port_at}
 use Rattle.gpa_space.specs.Space.{is_covered, overlay_of, owner_of, page_of}
-use Rattle.stimer_bank.specs.Bank.{dues, timer_in, is_due_in}
-use Rattle.stimer_bank.specs.Timer.{is_due, is_direct}
+use Rattle.stimer_bank.specs.Bank.{dues, timer_in}
+use Rattle.stimer_bank.specs.Timer.{is_due}
 use Rattle.stimer_bank.proofs.Shown.{due-reached}
 use Rattle.synic_regs.specs.declared.register.Register.{Register}
 use Rattle.synic_regs.specs.declared.register.Register.TheVariants as register
@@ -24,13 +23,13 @@ use Rattle.synic_board.specs.declared.event.Event.TheVariants.{OpenPort, ClosePo
 use Rattle.synic_board.specs.declared.event.Reply.{Reply}
 use Rattle.synic_board.specs.declared.event.Reply.TheVariants.{Done}
 use Rattle.synic_board.specs.Run.{Run, run_of}
-use Rattle.synic_board.specs.Sound.{IsSound, HasShape, PayloadFits}
+use Rattle.synic_board.specs.Sound.{IsSound, PayloadFits}
 use Rattle.synic_board.specs.State.{State, processors, space_of, bank_of, ports_of}
 use Rattle.synic_board.specs.Step.{step}
 use Rattle.live_pages.specs.declared.access.Access.{Access}
 use Rattle.live_board.specs.Acting.{Acts, AccessesOnly, IsEnded, IsPaid, ArePaid, IsTimedPaid, IsTickedPaid, IsTimedWrite, IsRegisterWrite, IsAccess, IsResetOf, eom_by}
-use Rattle.live_board.specs.Live.{LiveModel, Shadows, IsLive, IsQuietly, IsTicked, IsShown, AreDueDirect, AreMarks, is_any_due, number_at, log_of, has_processor, finds_empty, looked_from, marked_from}
-use Rattle.live_board.specs.Runs.{Call, AreCalls, notices_of}
+use Rattle.live_board.specs.Live.{LiveModel, IsLive, IsQuietly, IsTicked, AreDueDirect, AreMarks, is_any_due, number_at, log_of, has_processor, finds_empty, looked_from, marked_from}
+use Rattle.live_board.specs.Runs.{Call, notices_of}
 use Rattle.live_board.specs.Timers.{is_timer_register, is_timer_write, is_direct_write}
 use Rattle.live_board.proofs.Grown.{Grows, Any}
 use Rattle.live_board.proofs.Guests.{Rest, AreOfPage, fits-looked, fits-marked, kept-by, looks-of, event-conserves, timer-conserves, tick-conserves}

@@ -1,28 +1,27 @@
 -- Events on a live page of one processor leave another alone.
-use Rattle.std.proofs.Common.{◌≡◌, ◌≢◌, ◌⊎◌, inl, inr, ℕ, zero, suc, ◌+◌, ◌*◌, ◌<◌, Bool, true, false, List, [], ◌∷◌, ◌++◌, length, get_or, set, refl, sym, ap, ◌∙◌, subst, arith, All, append_assoc, length-append, length-set}
-use Rattle.std.specs.Prelude.{◌==◌}
+use Rattle.std.proofs.Common.{◌≡◌, ◌≢◌, inl, inr, ℕ, ◌+◌, ◌*◌, ◌<◌, Bool, true, false, List, [], ◌∷◌, ◌++◌, length, get_or, set, refl, sym, ap, ◌∙◌, subst, arith, All, length-set}
 use Rattle.std.proofs.lemmas.Bool.{cases_eq}
 use Rattle.std.proofs.lemmas.List.{append_cancel_right, get_or-set_same, get_or-set_other}
 use Rattle.std.proofs.lemmas.List.Elements.{All-append, All-cons, All-nil}
 use Rattle.board_terms.specs.declared.notices.Notice.{Notice}
 use Rattle.board_terms.specs.declared.pages.Kind.{Kind}
 use Rattle.board_terms.specs.declared.pages.Kind.TheVariants.{Sim, Sief}
-use Rattle.gpa_space.specs.Space.{overlay_of, owner_of}
+use Rattle.gpa_space.specs.Space.{overlay_of}
 use Rattle.synic_board.specs.declared.event.Event.{Event}
 use Rattle.synic_board.specs.declared.event.Event.TheVariants.{Write}
 use Rattle.synic_board.specs.declared.event.Reply.{Reply}
 use Rattle.synic_board.specs.Effects.{Outcome}
 use Rattle.synic_board.specs.Run.{Run, run_of}
 use Rattle.synic_board.specs.Sound.{IsSound, PayloadFits}
-use Rattle.synic_board.specs.State.{State, processors, space_of}
+use Rattle.synic_board.specs.State.{State, processors}
 use Rattle.synic_board.specs.Step.{step}
 use Rattle.live_pages.specs.declared.access.Access.{Access}
 use Rattle.live_board.specs.Acting.{AccessesOnlyAt}
-use Rattle.live_board.specs.Live.{LiveModel, IsLive, IsQuietly, IsTimed, IsShown, number_at, log_of, explained, explained_after}
+use Rattle.live_board.specs.Live.{LiveModel, IsLive, IsQuietly, IsTimed, number_at, log_of, explained, explained_after}
 use Rattle.live_board.specs.Timers.{is_timer_write}
 use Rattle.live_board.proofs.Grown.{Grows, Only}
-use Rattle.live_board.proofs.Guests.{Rest, guest-stores, late-stores, fits-all, kept-by, is-owner, looks-of}
-use Rattle.live_board.proofs.Joined.{run-append, rest-number, rest-shown}
+use Rattle.live_board.proofs.Guests.{Rest, guest-stores, late-stores, fits-all, kept-by, looks-of}
+use Rattle.live_board.proofs.Joined.{rest-number, rest-shown}
 use Rattle.live_board.proofs.TimedPart.{timer-grows, shown-same}
 use Rattle.law_processors.specs.Isolation.{Keeps, Untouched, processor_of, touches}
 use Rattle.law_processors.proofs.Isolated.{keeps-itself, keeps-then}

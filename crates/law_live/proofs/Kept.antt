@@ -1,5 +1,5 @@
 -- The accesses of calls to a message page, slot by slot.
-use Rattle.std.proofs.Common.{◌≡◌, ◌≢◌, ◌⊎◌, inl, inr, ℕ, zero, suc, ◌+◌, ◌*◌, ◌/◌, ◌<◌, ◌≤◌, Bool, true, false, List, [], ◌∷◌, ◌++◌, length, get_or, set, Some, refl, sym, ap, ◌∙◌, subst, arith, append_assoc}
+use Rattle.std.proofs.Common.{◌≡◌, ◌≢◌, ◌⊎◌, inl, inr, ℕ, zero, suc, ◌+◌, ◌*◌, ◌/◌, ◌<◌, ◌≤◌, Bool, true, false, List, [], ◌∷◌, ◌++◌, length, get_or, set, refl, sym, ap, ◌∙◌, subst, arith, append_assoc}
 use Rattle.std.specs.Prelude.{◌==◌, not}
 use Rattle.std.proofs.lemmas.Bool.{cases_eq}
 use Rattle.std.proofs.lemmas.Bool.Decides.{nat_tests}
@@ -11,16 +11,15 @@ use Rattle.gpa_space.specs.Space.{overlay_of}
 use Rattle.synic_board.specs.declared.event.Event.{Event}
 use Rattle.synic_board.specs.declared.event.Event.TheVariants.{Post}
 use Rattle.synic_board.specs.declared.event.Reply.{Reply}
-use Rattle.synic_board.specs.State.{State, processors}
+use Rattle.synic_board.specs.State.{State}
 use Rattle.live_pages.specs.Headers.{is_occupied}
 use Rattle.live_pages.specs.Slot.{known, header, type_of, pending_mask}
 use Rattle.live_pages.specs.declared.access.Access.{Access}
 use Rattle.live_pages.specs.declared.access.Access.TheVariants.{Load, FetchOr, Store}
-use Rattle.live_board.specs.Live.{LiveModel, IsLive, IsTicked, HasPlaced, slot_word, IsShown, AreCareful, AreReads, AreLooks, AreMarks, AreProbes, AreStores, ArePuts, IsStoredAnew, HasProbed, ProbesIf, AreDueDirect, is_any_due, is_waiting, log_of}
+use Rattle.live_board.specs.Live.{LiveModel, IsLive, HasPlaced, slot_word, IsShown, AreCareful, AreReads, AreLooks, AreMarks, AreProbes, AreStores, ArePuts, IsStoredAnew, HasProbed, ProbesIf, AreDueDirect, is_any_due, is_waiting, log_of}
 use Rattle.live_board.proofs.Joined.{careful-append}
 use Rattle.live_board.proofs.WokenTicks.{direct-or}
-use Rattle.law_slots.specs.Reading.{is_in, KeepsSlot}
-use Rattle.law_live.specs.Alone.{IsReady}
+use Rattle.law_slots.specs.Reading.{is_in}
 use Rattle.law_live.specs.Kept.{AreKept, KeepsSlots, PostsKeepSlots, EomsKeepSlots, TimersKeepSlots, TicksKeepSlots}
 use Rattle.law_live.proofs.Apart.{page-count}
 use Rattle.law_live.proofs.Calls.{overlay-low}

@@ -1,5 +1,5 @@
 -- A reset of another processor, and looks at all words of its pages.
-use Rattle.std.proofs.Common.{◌≡◌, ◌≢◌, ◌⊎◌, inl, inr, ℕ, zero, suc, ◌+◌, ◌*◌, ◌<◌, ◌≤◌, Bool, true, false, List, [], ◌∷◌, ◌++◌, length, get_or, set, refl, sym, ap, ◌∙◌, subst, arith, All, length-set}
+use Rattle.std.proofs.Common.{◌≡◌, ◌≢◌, ℕ, zero, suc, ◌+◌, ◌*◌, ◌≤◌, Bool, true, false, List, [], ◌∷◌, ◌++◌, length, get_or, set, refl, sym, ap, ◌∙◌, subst, arith, All, length-set}
 use Rattle.std.specs.Prelude.{◌==◌, nat_lt}
 use Rattle.std.proofs.lemmas.Bool.Decides.{nat_tests}
 use Rattle.std.proofs.lemmas.List.{get_or-set_other}
@@ -14,13 +14,12 @@ use Rattle.synic_board.specs.declared.event.Event.{Event}
 use Rattle.synic_board.specs.declared.event.Event.TheVariants.{Write, Reset}
 use Rattle.synic_board.specs.declared.event.Reply.{Reply}
 use Rattle.synic_board.specs.Effects.{Outcome}
-use Rattle.synic_board.specs.Run.{Run, run_of}
+use Rattle.synic_board.specs.Run.{run_of}
 use Rattle.synic_board.specs.Sound.{IsSound, PayloadFits}
 use Rattle.synic_board.specs.State.{State, processors, space_of}
-use Rattle.synic_board.specs.Step.{step}
 use Rattle.live_pages.specs.declared.access.Access.{Access}
 use Rattle.live_board.specs.Hiding.{IsSettledIf, IsSettledUnder, IsHiding}
-use Rattle.live_board.specs.Live.{LiveModel, IsReset, IsShown, FindInPage, log_of, explained}
+use Rattle.live_board.specs.Live.{LiveModel, IsReset, FindInPage, log_of, explained}
 use Rattle.live_board.specs.Settling.{IsSettled, AreAllLoads, AreLoads}
 use Rattle.live_board.proofs.Guests.{Rest, guest-stores, fits-all, looks-of, settle-changes, settle-conserves}
 use Rattle.law_processors.specs.Isolation.{Keeps, Untouched, is_overlay_of, processor_of}

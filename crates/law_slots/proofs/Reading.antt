@@ -1,17 +1,16 @@
 -- While a guest reads its message, the host leaves it alone.
 use Rattle.std.proofs.Common.{◌≡◌, ◌≢◌, ℕ, Bool, true, false, List, [], ◌∷◌, refl, sym, ap, ◌∙◌, subst, arith}
-use Rattle.std.specs.Prelude.{◌==◌, ◌&&◌, ◌||◌, not, bit_or, if◌then◌else◌}
+use Rattle.std.specs.Prelude.{◌==◌, bit_or, if◌then◌else◌}
 use Rattle.std.specs.Int.{bit_at}
 use mir.Syntax.{w64}
 use Rattle.std.proofs.lemmas.Bool.Decides.{nat_tests}
 use Rattle.std.proofs.lemmas.Nat.Bits.{bit_at_set_other}
-use Rattle.live_pages.specs.Slot.{known, pending_mask}
-use Rattle.live_pages.specs.Traces.{memory, accesses, Finds}
-use Rattle.live_pages.specs.declared.access.Access.{Access}
+use Rattle.live_pages.specs.Slot.{pending_mask}
+use Rattle.live_pages.specs.Traces.{memory, accesses}
 use Rattle.live_pages.specs.declared.access.Access.TheVariants.{Load, FetchOr, Store}
 use Rattle.live_pages.specs.Headers.{is_occupied}
 use Rattle.law_slots.specs.Slots.{GuestAt, guest_is, taken}
-use Rattle.law_slots.specs.Pages.{PageState, Move, touches, takes, clears, drains, fences, sees, writes, MayMove, moved, moved_by, entered, Keeps, acted_by, opened}
+use Rattle.law_slots.specs.Pages.{PageState, Move, touches, takes, clears, drains, fences, sees, writes, MayMove, moved, moved_by, entered, acted_by, opened}
 use Rattle.law_slots.specs.Reading.{is_in, KeepsSlot, MayMeanwhile, AreMeanwhile, amid, IsSameMessage, NoMessageIsTorn}
 use Rattle.law_slots.proofs.Effects.{equal}
 use Rattle.law_slots.proofs.Memory.{is-fit, in-memory, as-known, fit-move, fit-moves, fit-entered, kept-acts}
