@@ -49,4 +49,4 @@ NoMessageIsTorn =
     → AreMoves x (entered (acted_by x opened acts).page ends) moves
     → guest_is (amid x acts ends moves).guest taken ≡ true → AreMeanwhile x (amid x acts ends moves) meanwhile
     → IsSameMessage x (memory (amid x acts ends moves).turns)
-        (memory (moved_by x (amid x acts ends moves) meanwhile).turns)
+    (memory (moved_by x (amid x acts ends moves) meanwhile).turns)
