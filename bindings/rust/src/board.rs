@@ -222,6 +222,10 @@ impl Board {
     ///
     /// [`OpenFault::BadSize`] if a size is out of range, [`OpenFault::Memory`] if an allocation
     /// fails.
+    ///
+    /// # Panics
+    ///
+    /// If the library that runs is older than this crate, or of another major version.
     pub fn open(processors: u8, pages: u8, first_ticket: Ticket) -> Result<Board, OpenFault> {
         same_library();
         let handle = UnsafeCell::new(sys::SYNICBOARD_CLOSED);
@@ -249,6 +253,10 @@ impl Board {
     /// # Errors
     ///
     /// [`OpenFault::BadSize`] if the size is out of range, [`OpenFault::Memory`] if an allocation fails.
+    ///
+    /// # Panics
+    ///
+    /// If the library that runs is older than this crate, or of another major version.
     pub fn open_sparse(processors: u8, first_ticket: Ticket) -> Result<Board, OpenFault> {
         same_library();
         let handle = UnsafeCell::new(sys::SYNICBOARD_CLOSED);
@@ -275,6 +283,10 @@ impl Board {
     ///
     /// [`RestoreFault::WrongLine`] if the text is no image, [`RestoreFault::Memory`] if an allocation
     /// fails, [`RestoreFault::TooLong`] for a text of more than 1 GiB.
+    ///
+    /// # Panics
+    ///
+    /// If the library that runs is older than this crate, or of another major version.
     pub fn restore(image: &[u8]) -> Result<Board, RestoreFault> {
         same_library();
         let handle = UnsafeCell::new(sys::SYNICBOARD_CLOSED);

@@ -124,6 +124,10 @@ impl Line {
     ///
     /// [`OpenFault::BadSize`] if the number is out of range, [`OpenFault::Memory`] if an allocation
     /// fails.
+    ///
+    /// # Panics
+    ///
+    /// If the library that runs is older than this crate, or of another major version.
     pub fn open(processors: u8) -> Result<Line, OpenFault> {
         crate::same_library();
         let mut line = Line::closed(processors);

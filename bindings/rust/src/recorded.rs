@@ -114,6 +114,10 @@ impl RecordedBoard {
     ///
     /// [`OpenFault::BadSize`] if a size is out of range, [`OpenFault::Memory`] if an allocation
     /// fails.
+    ///
+    /// # Panics
+    ///
+    /// If the library that runs is older than this crate, or of another major version.
     pub fn open(processors: u8, pages: u8, first_ticket: Ticket) -> Result<RecordedBoard, OpenFault> {
         crate::same_library();
         let board = RecordedBoard { handle: UnsafeCell::new(sys::SYNICBOARD_SHARED_CLOSED) };
