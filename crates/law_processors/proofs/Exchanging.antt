@@ -11,7 +11,7 @@ use Rattle.synic_board.proofs.keeping.Settled.{settled-step}
 use Rattle.synic_board.proofs.keeping.Steps.{keeps-step, sound as sound-after}
 use Rattle.synic_board.proofs.keeping.Wholes.{kept_from_sound}
 use Rattle.law_processors.specs.Isolation.{Keeps, touches}
-use Rattle.law_processors.specs.Influence.{Agree, concerns, ActsAlike}
+use Rattle.law_processors.specs.Influence.{concerns, ActsAlike}
 use Rattle.law_processors.specs.Exchange.{LeavesShared, IsConfined, IsOfBoard, AreConfined, EndAlike}
 use Rattle.law_processors.proofs.Isolated.{keeps-then}
 use Rattle.law_processors.proofs.Isolating.{leaves-alone}
