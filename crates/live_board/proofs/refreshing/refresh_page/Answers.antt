@@ -1,7 +1,7 @@
 use Rattle.std.proofs.Common.{rules}
 use Rattle.live_board.specs.Live.{IsShown}
-use Rattle.live_board.proofs.Settled.{loaded-shown, loaded-hidden}
-use Rattle.live_board.proofs.settling.settle_page.Goals as goal
+use Rattle.live_board.proofs.Refreshed.{loaded-shown, loaded-hidden}
+use Rattle.live_board.proofs.refreshing.refresh_page.Goals as goal
 
 pub returns-then-is_shown-clause-loaded : goal.returns-then-is_shown-clause-loaded
 returns-then-is_shown-clause-loaded c =

@@ -2,8 +2,8 @@ use Rattle.std.proofs.Common.{◌≡◌, ◌<◌, arith, subst, sym, ap, length,
 use Rattle.synic_board.specs.State.{processors}
 use Rattle.live_board.specs.inside.Parts.{IsLoads}
 use Rattle.live_board.proofs.Joined.{rest-shown}
-use Rattle.live_board.proofs.Settled.{loads-start, loads-more}
-use Rattle.live_board.proofs.settling.load_words.Goals as goal
+use Rattle.live_board.proofs.Refreshed.{loads-start, loads-more}
+use Rattle.live_board.proofs.refreshing.load_words.Goals as goal
 
 pub look-requires-clause-capacity : goal.look-requires-clause-capacity
 look-requires-clause-capacity c =

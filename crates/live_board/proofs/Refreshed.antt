@@ -10,10 +10,10 @@ use Rattle.synic_board.specs.declared.event.Reply.{Reply}
 use Rattle.synic_board.specs.State.{State, BoardModel, processors}
 use Rattle.synic_board.specs.Sound.{IsSound}
 use Rattle.synic_board.specs.Run.{Run, run_of}
-use Rattle.live_pages.specs.Slot.{known}
+use Rattle.live_pages.specs.Words.{known}
 use Rattle.live_pages.specs.declared.access.Access.{Access}
 use Rattle.live_board.specs.Live.{LiveModel, Shadows, IsShown, explained, all_done}
-use Rattle.live_board.specs.Settling.{AreLoads, IsSettled}
+use Rattle.live_board.specs.Refreshing.{AreLoads, IsRefreshed}
 use Rattle.live_board.specs.Words.{word_of}
 use Rattle.live_board.specs.inside.Parts.{IsShadow, IsPassed, IsWatched, IsLook, IsLoads, IsLoaded, found_stores}
 use Rattle.live_board.proofs.Passed.{no-notices}
@@ -113,12 +113,12 @@ loaded-hidden s p k log notices hidden shadow = record {
 }
 
 -- both pages, in terms of the whole board
-settled : (old mid now : BoardModel) (pages : List (List Access)) (p : ℕ) (log1 log2 : List Access)
+refreshed : (old mid now : BoardModel) (pages : List (List Access)) (p : ℕ) (log1 log2 : List Access)
     (between after : List Notice)
     → IsLoaded old.state p kind.Sim (get_or pages (2 * p) []) mid.state log1 [] between
     → IsLoaded mid.state p kind.Sief (get_or pages (2 * p + 1) []) now.state log2 between after
-    → IsSettled p (live old pages) (live now (set (set pages (2 * p) log1) (2 * p + 1) log2)) after
-settled old mid now pages p log1 log2 between after a b = record {
+    → IsRefreshed p (live old pages) (live now (set (set pages (2 * p) log1) (2 * p + 1) log2)) after
+refreshed old mid now pages p log1 log2 between after a b = record {
   few = omega (arith, a.few, b.few, ap length a.notices, ap length b.notices, length-append between b.emitted);
   messages = a.watched.news;
   flags = b.watched.news;
@@ -166,29 +166,29 @@ pub loaded-from : (s : State) (p : ℕ) (k : Kind) (log : List Access) (now : St
     → IsLoaded s p k log now log-now other after
 loaded-from s p k log now log-now before other after is h = subst (λ ns. IsLoaded s p k log now log-now ns after) is h
 
-pub settled-at : (old mid now : BoardModel) (pages : List (List Access)) (other : LiveModel) (p i j : ℕ)
+pub refreshed-at : (old mid now : BoardModel) (pages : List (List Access)) (other : LiveModel) (p i j : ℕ)
     (page1 page2 log1 log2 : List Access) (first between after : List Notice) → live old pages ≡ other → i ≡ 2 * p
     → j ≡ 2 * p + 1
     → page1 ≡ get_or pages (2 * p) [] → page2 ≡ get_or pages (2 * p + 1) [] → first ≡ []
     → IsLoaded old.state p kind.Sim page1 mid.state log1 first between
     → IsLoaded mid.state p kind.Sief page2 now.state log2 between after
-    → IsSettled p other (live now (set (set pages i log1) j log2)) after
-settled-at old mid now pages other p i j page1 page2 log1 log2 first between after is a b c d none one two =
-    subst (λ m. IsSettled p m (live now (set (set pages i log1) j log2)) after) is
-    (subst (λ n. IsSettled p (live old pages) (live now (set (set pages n log1) j log2)) after) (sym a)
-    (subst (λ n. IsSettled p (live old pages) (live now (set (set pages (2 * p) log1) n log2)) after) (sym b)
-    (settled old mid now pages p log1 log2 between after
+    → IsRefreshed p other (live now (set (set pages i log1) j log2)) after
+refreshed-at old mid now pages other p i j page1 page2 log1 log2 first between after is a b c d none one two =
+    subst (λ m. IsRefreshed p m (live now (set (set pages i log1) j log2)) after) is
+    (subst (λ n. IsRefreshed p (live old pages) (live now (set (set pages n log1) j log2)) after) (sym a)
+    (subst (λ n. IsRefreshed p (live old pages) (live now (set (set pages (2 * p) log1) n log2)) after) (sym b)
+    (refreshed old mid now pages p log1 log2 between after
     (loaded-from old.state p kind.Sim (get_or pages (2 * p) []) mid.state log1 first [] between none
     (loaded-at old.state p kind.Sim page1 (get_or pages (2 * p) []) mid.state log1 first between c one))
     (loaded-at mid.state p kind.Sief page2 (get_or pages (2 * p + 1) []) now.state log2 between after d two))))
 
 -- the shadows of both pages
-pub settled-shadows : (s mid now : State) (pages : List (List Access)) (p i j : ℕ)
+pub refreshed-shadows : (s mid now : State) (pages : List (List Access)) (p i j : ℕ)
     (page1 page2 log1 log2 : List Access) (first between after : List Notice) → i ≡ 2 * p → j ≡ 2 * p + 1
     → 2 * p + 1 < length s.own → Shadows s pages
     → IsLoaded s p kind.Sim page1 mid log1 first between → IsLoaded mid p kind.Sief page2 now log2 between after
     → Shadows now (set (set pages i log1) j log2)
-settled-shadows s mid now pages p i j page1 page2 log1 log2 first between after a b inside h one two =
+refreshed-shadows s mid now pages p i j page1 page2 log1 log2 first between after a b inside h one two =
     subst (λ n. Shadows now (set (set pages n log1) j log2)) (sym a)
     (subst (λ n. Shadows now (set (set pages (2 * p) log1) n log2)) (sym b)
     (page-shadows mid now (set pages (2 * p) log1) (2 * p + 1) log2 (omega (arith, inside, one.watched.count))

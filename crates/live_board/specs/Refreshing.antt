@@ -1,9 +1,9 @@
--- A processor's live pages before an image of the board is saved: each word is loaded.
+-- Live pages before an image of the board is saved: each word is loaded.
 use Rattle.std.specs.Prelude.{◌≡◌, ℕ, zero, suc, ◌+◌, ◌*◌, ◌≤◌, List, ◌∷◌, [], ◌++◌, length, slice_set}
 use Rattle.board_terms.specs.declared.notices.Notice.{Notice}
 use Rattle.board_terms.specs.declared.pages.Kind.{Kind}
 use Rattle.board_terms.specs.declared.pages.Kind.TheVariants.{Sim, Sief}
-use Rattle.synic_board.specs.State.{State}
+use Rattle.synic_board.specs.State.{State, processors}
 use Rattle.synic_board.specs.Run.{run_of}
 use Rattle.live_pages.specs.declared.access.Access.{Access}
 use Rattle.live_pages.specs.declared.access.Access.TheVariants.{Load}
@@ -21,7 +21,7 @@ pub record AreAllLoads (s : State) (p : ℕ) (k : Kind) (news : List Access) : T
 
 -- a live board loads all words of both pages of a processor that the guest sees, the message page first, and the
 -- reference model performs the guest's stores that these show
-pub record IsSettled (p : ℕ) (old : LiveModel) (now : LiveModel) (notices : List Notice) : Type 0 where
+pub record IsRefreshed (p : ℕ) (old : LiveModel) (now : LiveModel) (notices : List Notice) : Type 0 where
   pub few : length notices ≤ 32
   pub messages : List Access
   pub flags : List Access
@@ -40,3 +40,14 @@ pub record IsSettled (p : ℕ) (old : LiveModel) (now : LiveModel) (notices : Li
             ++ explained old.board.state p Sief flags (log_of old p Sief)),
         notices,
       )
+
+-- the processors below n are refreshed, in order
+abbrev pub AreRefreshed : ℕ → LiveModel → LiveModel → List Notice → Type 0
+AreRefreshed zero old now notices = (now ≡ old) × (notices ≡ [])
+AreRefreshed (suc n) old now notices =
+    (mid : LiveModel) × (first : List Notice) × (last : List Notice) × AreRefreshed n old mid first
+    × IsRefreshed n mid now last × (notices ≡ first ++ last)
+
+-- all processors are
+abbrev pub AreAllRefreshed : LiveModel → LiveModel → List Notice → Type 0
+AreAllRefreshed old now notices = AreRefreshed (processors old.board.state) old now notices

@@ -1,6 +1,6 @@
 use Rattle.std.proofs.Common.{◌≡◌}
 use Rattle.live_board.specs.inside.Parts.{IsLoads}
-use Rattle.live_board.proofs.settling.load_words.Given as goal
+use Rattle.live_board.proofs.refreshing.load_words.Given as goal
 
 abbrev pub invariant-loop-word : goal.invariant-loop-word
 invariant-loop-word l =
