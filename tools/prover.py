@@ -61,7 +61,7 @@ def mark(crate, built):
 
 
 def is_current(crate, built):
-    """Whether a file was built of a crate as it is now."""
+    """Whether a file was built of the present sources of a crate."""
     try:
         with open(built + ".made", encoding="ascii") as file:
             return file.read() == checksum(crate, built)
