@@ -16,20 +16,21 @@ ROOT = os.path.dirname(os.path.dirname(os.path.abspath(__file__)))
 
 
 def edit(path):
-    """The mutant of a file NAME.edit, and the test that its line `test: ` names, if it has one."""
-    test, turns = None, []
+    """The mutant of a file NAME.edit, and its other lines by their first word: `test: ` names a program of tests, and
+    `fails: ` the tests that fail."""
+    turns, notes = [], {}
     with open(path, encoding="utf-8") as lines:
         for line in lines:
             key, _, value = line.rstrip("\n").partition(": ")
-            if key == "test":
-                test = value
-            elif key == "file":
+            if key == "file":
                 file = value
             elif key == "old":
                 old = value
             elif key == "new":
                 turns.append((file, old, value))
-    return turns, test
+            else:
+                notes[key] = value
+    return turns, notes
 
 
 def wrong_bodies(crate):
