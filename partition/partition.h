@@ -24,13 +24,14 @@ enum {
     PARTITION_HYPERCALLS = 1 << 6,
     PARTITION_VP_INDEX = 1 << 7,
     PARTITION_RESET = 1 << 8,
-    PARTITION_APIC = 1 << 9,            /* the registers EOI, ICR and TPR, and the assist page */
+    PARTITION_APIC = 1 << 9,            /* the registers EOI, ICR and TPR */
     PARTITION_PREFERS_APIC = 1 << 10,   /* the guest should use these registers */
     PARTITION_NO_AUTO_EOI = 1 << 11,    /* it should not use AutoEOI */
     PARTITION_RELAXED = 1 << 12,        /* it should have no watchdogs */
     PARTITION_CLUSTER_IPI = 1 << 13,    /* it should send interrupts by HvCallSendSyntheticClusterIpi */
     PARTITION_CONNECTIONS = 1 << 14,    /* it may post messages and signal events */
     PARTITION_SUSPEND = 1 << 15,        /* HvRegisterExplicitSuspend, by HvCallSetVpRegisters */
+    PARTITION_ASSIST = 1 << 16,         /* the assist page: Linux writes its register whatever CPUID says */
 };
 
 struct partition_offer {

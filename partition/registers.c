@@ -18,7 +18,8 @@ static uint32_t feature_of(uint32_t msr)
     case SYNICBOARD_MSR_TIME_REF_COUNT: return PARTITION_COUNTER;
     case MSR_REFERENCE_TSC: return PARTITION_TSC_PAGE;
     case MSR_TSC_FREQUENCY: case MSR_APIC_FREQUENCY: return PARTITION_FREQUENCIES;
-    case SYNICBOARD_MSR_EOI: case MSR_ICR: case SYNICBOARD_MSR_TPR: case MSR_VP_ASSIST: return PARTITION_APIC;
+    case SYNICBOARD_MSR_EOI: case MSR_ICR: case SYNICBOARD_MSR_TPR: return PARTITION_APIC;
+    case MSR_VP_ASSIST: return PARTITION_ASSIST;
     }
     if (is_in(msr, SYNICBOARD_MSR_SCONTROL, 5) || is_in(msr, SYNICBOARD_MSR_SINT0, 16))
         return PARTITION_SYNIC;
@@ -32,7 +33,7 @@ enum partition_owner partition_owner(const struct partition_offer *offer, uint32
         return PARTITION_NOBODY;
     if (msr == SYNICBOARD_MSR_TIME_REF_COUNT || feature == PARTITION_SYNIC || feature == PARTITION_TIMERS)
         return PARTITION_OF_BOARD;
-    return feature == PARTITION_APIC && msr != MSR_VP_ASSIST ? PARTITION_OF_APIC : PARTITION_OWN;
+    return feature == PARTITION_APIC ? PARTITION_OF_APIC : PARTITION_OWN;
 }
 
 bool partition_needs_time(uint32_t msr)

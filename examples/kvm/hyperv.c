@@ -13,7 +13,7 @@ struct partition_offer hyperv_offer(void)
     uint32_t features = PARTITION_SYNIC | PARTITION_TIMERS | PARTITION_DIRECT_TIMERS | PARTITION_COUNTER | PARTITION_TSC_PAGE
         | PARTITION_FREQUENCIES | PARTITION_HYPERCALLS | PARTITION_VP_INDEX | PARTITION_RESET | PARTITION_RELAXED
         | PARTITION_CLUSTER_IPI | PARTITION_SUSPEND;
-    features |= vm.has_irqchip ? PARTITION_NO_AUTO_EOI : PARTITION_APIC | PARTITION_PREFERS_APIC;
+    features |= vm.has_irqchip ? PARTITION_NO_AUTO_EOI : PARTITION_APIC | PARTITION_PREFERS_APIC | PARTITION_ASSIST;
     features |= vm.vmbus.is_on ? PARTITION_CONNECTIONS : 0;
     return (struct partition_offer){
         .features = features, .vps = vm.vps, .spin_retries = UINT32_MAX, .tsc_hz = vm.tsc_hz, .apic_hz = APIC_HZ,

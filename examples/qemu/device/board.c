@@ -1,6 +1,7 @@
 /* The board under its lock: each event with what its reply and its notices ask of the emulator. */
 #include "internal.h"
 #include "qapi/error.h"
+#include "qemu/host-utils.h"
 #include "qemu/error-report.h"
 #include "qemu/thread.h"
 
@@ -23,7 +24,7 @@ static struct {
 /* Messages of which it is reported that they were placed. */
 static struct { bool is_used; uint64_t ticket; } watches[SYNIC_WATCHES];
 
-static uint64_t events, notices_seen, by_kind[SYNICBOARD_NOTICE_SKIPPED + 1], forwarded_to[PARTITION_VPS], settled;
+static uint64_t events, notices_seen, by_kind[SYNICBOARD_NOTICE_SKIPPED + 1], forwarded, settled;
 
 /* ---- Under the lock ---- */
 
@@ -63,13 +64,15 @@ static void handle_notices(void)
 static void collect(void)
 {
     for (uint8_t vp = 0; work.marked != 0; vp++) {
-        synicboard_forwarded forwarded;
+        synicboard_forwarded vectors;
         if (!(work.marked >> vp & 1))
             continue;
-        synicboard_forward(&board, vp, &forwarded);
-        synic_log_forwarded(vp, &forwarded);
-        for (unsigned word = 0; word < 4; word++)
-            work.vectors[vp][word] |= forwarded.vectors[word];
+        synicboard_forward(&board, vp, &vectors);
+        synic_log_forwarded(vp, &vectors);
+        for (unsigned word = 0; word < 4; word++) {
+            work.vectors[vp][word] |= vectors.vectors[word];
+            forwarded += ctpop64(vectors.vectors[word]);
+        }
         work.vps |= 1ULL << vp;
         work.marked &= ~(1ULL << vp);
     }
@@ -290,7 +293,8 @@ void synic_report(void)
 {
     qemu_mutex_lock(&lock);
     synic_log_end(&board);
-    fprintf(stderr, "synicboard: %" PRIu64 " events, %" PRIu64 " notices; settled %" PRIu64 " times\n", events, notices_seen, settled);
+    fprintf(stderr, "synicboard: %" PRIu64 " events, %" PRIu64 " notices, %" PRIu64 " vectors forwarded; settled %" PRIu64 " times\n",
+            events, notices_seen, forwarded, settled);
     fprintf(stderr, "synicboard: messages: %" PRIu64 " placed, %" PRIu64 " consumed, %" PRIu64 " withdrawn; flags: %" PRIu64
             "; timers: %" PRIu64 " expired\n", by_kind[SYNICBOARD_NOTICE_PLACED], by_kind[SYNICBOARD_NOTICE_CONSUMED],
             by_kind[SYNICBOARD_NOTICE_WITHDRAWN], by_kind[SYNICBOARD_NOTICE_FLAG], by_kind[SYNICBOARD_NOTICE_EXPIRED]);

@@ -7,10 +7,9 @@
 #include "qapi/error.h"
 #include "qemu/error-report.h"
 #include "qemu/timer.h"
-#include "../partition/status.h"
 
-#define TYPE_BUS "synicboard-vmbus"
-OBJECT_DECLARE_SIMPLE_TYPE(SynicBus, BUS)
+#define TYPE_SYNIC_BUS "synicboard-vmbus"
+OBJECT_DECLARE_SIMPLE_TYPE(SynicBus, SYNIC_BUS)
 
 struct SynicBus {
     DeviceState parent;
@@ -171,7 +170,7 @@ static int post_load(void *opaque, int version)
 }
 
 static const VMStateDescription description = {
-    .name = TYPE_BUS,
+    .name = TYPE_SYNIC_BUS,
     .version_id = 1,
     .minimum_version_id = 1,
     .pre_save = pre_save,
@@ -190,18 +189,18 @@ static const VMStateDescription description = {
 
 static void realize(DeviceState *device, Error **errp)
 {
-    SynicBus *bus = BUS(device);
+    SynicBus *bus = SYNIC_BUS(device);
     struct vmbus_options options = {
         .vps = synic.offer.vps, .newest = bus->newest, .shutdown_after = bus->shutdown_after, .rescind_after = bus->rescind_after,
         .heartbeats = bus->heartbeats, .signals_in_turn = synic_log_options.traps,
     };
     if (!synic.is_open || !(synic.offer.features & PARTITION_SYNIC) || the_bus != NULL || synic_has_qemu_bus()) {
-        error_setg(errp, "%s needs -cpu ..,hv-synic of the emulator, and no other VMBus", TYPE_BUS);
+        error_setg(errp, "%s needs -cpu ..,hv-synic of the emulator, and no other VMBus", TYPE_SYNIC_BUS);
         return;
     }
     bus->bus = vmbus_open(&host, bus, &options);
     if (bus->bus == NULL) {
-        error_setg(errp, "%s: no memory", TYPE_BUS);
+        error_setg(errp, "%s: no memory", TYPE_SYNIC_BUS);
         return;
     }
     the_bus = bus;
@@ -237,8 +236,8 @@ static void bus_class_init(ObjectClass *class, SynicClassData data)
 
 /* ---- The options of the board ---- */
 
-#define TYPE_OPTIONS "synicboard"
-OBJECT_DECLARE_SIMPLE_TYPE(SynicOptions, OPTIONS)
+#define TYPE_SYNIC_OPTIONS "synicboard"
+OBJECT_DECLARE_SIMPLE_TYPE(SynicOptions, SYNIC_OPTIONS)
 
 struct SynicOptions {
     DeviceState parent;
@@ -248,9 +247,9 @@ struct SynicOptions {
 static void options_realize(DeviceState *device, Error **errp)
 {
     if (!synic.is_open || synic_has_bus())
-        error_setg(errp, "%s needs -cpu ..,hv-synic of the emulator, and is named before %s", TYPE_OPTIONS, TYPE_BUS);
+        error_setg(errp, "%s needs -cpu ..,hv-synic of the emulator, and is named before %s", TYPE_SYNIC_OPTIONS, TYPE_SYNIC_BUS);
     else
-        synic_log_options = OPTIONS(device)->options;
+        synic_log_options = SYNIC_OPTIONS(device)->options;
 }
 
 static SynicProperty options_properties[] = {
@@ -271,8 +270,8 @@ static void options_class_init(ObjectClass *class, SynicClassData data)
 }
 
 static const TypeInfo types[] = {
-    { .name = TYPE_BUS, .parent = TYPE_DEVICE, .instance_size = sizeof(SynicBus), .class_init = bus_class_init },
-    { .name = TYPE_OPTIONS, .parent = TYPE_DEVICE, .instance_size = sizeof(SynicOptions), .class_init = options_class_init },
+    { .name = TYPE_SYNIC_BUS, .parent = TYPE_DEVICE, .instance_size = sizeof(SynicBus), .class_init = bus_class_init },
+    { .name = TYPE_SYNIC_OPTIONS, .parent = TYPE_DEVICE, .instance_size = sizeof(SynicOptions), .class_init = options_class_init },
 };
 
 DEFINE_TYPES(types)

@@ -1,7 +1,6 @@
 /* Hypercalls: the code in the guest's page calls by OUT to a port, which every processor of QEMU can do, and for which QEMU
  * ends the translation block. */
 #include "internal.h"
-#include "../partition/status.h"
 
 enum { CALL_PORT = 0xe8 };
 

@@ -3,7 +3,8 @@
 #include "hw/boards.h"
 #include "qapi/error.h"
 
-enum { OFFERED_ALWAYS = PARTITION_HYPERCALLS };
+/* KVM has the assist page always, too. */
+enum { OFFERED_ALWAYS = PARTITION_HYPERCALLS | PARTITION_ASSIST };
 
 /* A property without features is one that is not offered. */
 static const struct property {

@@ -11,7 +11,7 @@ static uint64_t mapped[2 * PARTITION_VPS];      /* the guest's address, or SYNIC
 
 /* ---- Pages that trap ---- */
 
-static synicboard_reply access(uint8_t kind, void *opaque, hwaddr offset, uint64_t value, unsigned length)
+static synicboard_reply access_page(uint8_t kind, void *opaque, hwaddr offset, uint64_t value, unsigned length)
 {
     synicboard_event event = { .kind = kind, .address = mapped[(uintptr_t)opaque] + offset, .length = length };
     stq_le_p(event.bytes, value);
@@ -23,12 +23,12 @@ static synicboard_reply access(uint8_t kind, void *opaque, hwaddr offset, uint64
 
 static uint64_t trap_read(void *opaque, hwaddr offset, unsigned length)
 {
-    return ldq_le_p(access(SYNICBOARD_LOAD, opaque, offset, 0, length).bytes);
+    return ldq_le_p(access_page(SYNICBOARD_LOAD, opaque, offset, 0, length).bytes);
 }
 
 static void trap_write(void *opaque, hwaddr offset, uint64_t value, unsigned length)
 {
-    access(SYNICBOARD_STORE, opaque, offset, value, length);
+    access_page(SYNICBOARD_STORE, opaque, offset, value, length);
 }
 
 static const MemoryRegionOps traps = {
