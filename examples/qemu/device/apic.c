@@ -52,10 +52,3 @@ bool synic_apic_write(X86CPU *cpu, uint32_t msr, uint64_t value)
     default: return false;
     }
 }
-
-/* A vector of a source with AutoEOI does not enter service. Whether it is one is evaluated when it is delivered, whoever
- * requested it, as the board does. */
-bool synic_ends_at_delivery(X86CPU *cpu, int vector)
-{
-    return synic.is_ready && vector >= 16 && synic_is_auto(CPU(cpu)->cpu_index, vector);
-}

@@ -295,6 +295,7 @@ void synic_report(void)
     synic_log_end(&board);
     fprintf(stderr, "synicboard: %" PRIu64 " events, %" PRIu64 " notices, %" PRIu64 " vectors forwarded; settled %" PRIu64 " times\n",
             events, notices_seen, forwarded, settled);
+    fprintf(stderr, "synicboard: %" PRIu64 " interrupts ended without a write of EOI\n", synic_assist_count());
     fprintf(stderr, "synicboard: messages: %" PRIu64 " placed, %" PRIu64 " consumed, %" PRIu64 " withdrawn; flags: %" PRIu64
             "; timers: %" PRIu64 " expired\n", by_kind[SYNICBOARD_NOTICE_PLACED], by_kind[SYNICBOARD_NOTICE_CONSUMED],
             by_kind[SYNICBOARD_NOTICE_WITHDRAWN], by_kind[SYNICBOARD_NOTICE_FLAG], by_kind[SYNICBOARD_NOTICE_EXPIRED]);

@@ -28,17 +28,7 @@ static SynicBus *the_bus;
 
 static uint8_t *find_page(void *opaque, uint64_t number, bool is_stored)
 {
-    hwaddr offset, length = PARTITION_PAGE;
-    RCU_READ_LOCK_GUARD();
-    if (number >> 52 != 0)
-        return NULL;
-    MemoryRegion *region = address_space_translate(&address_space_memory, number * PARTITION_PAGE, &offset, &length, is_stored,
-                                                   MEMTXATTRS_UNSPECIFIED);
-    if (length < PARTITION_PAGE || !memory_region_is_ram(region) || region->readonly)
-        return NULL;
-    if (is_stored)
-        memory_region_set_dirty(region, offset, PARTITION_PAGE);
-    return (uint8_t *)memory_region_get_ram_ptr(region) + offset;
+    return synic_find_page(number, is_stored);
 }
 
 static synicboard_reply perform(void *opaque, const synicboard_event *event)

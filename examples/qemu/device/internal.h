@@ -63,6 +63,13 @@ void synic_make_regions(void);          /* of the live pages that the board has 
 void synic_map_overlays(void);
 void synic_move_overlay(X86CPU *cpu, uint32_t msr, uint64_t value);     /* a write of SIMP or SIEFP, while no processor runs; without the BQL */
 
+uint8_t *synic_find_page(uint64_t number, bool is_stored);     /* of the guest's memory; null if it is none */
+
+/* assist.c. Under the BQL. */
+extern uint8_t synic_assisted[PARTITION_VPS];   /* the vector in service for which the bit was set, or 0; for a saved machine */
+void synic_assist_leave(X86CPU *cpu);
+uint64_t synic_assist_count(void);      /* interrupts that ended without a write of EOI */
+
 /* offer.c */
 bool synic_make_offer(X86CPU *cpu, struct partition_offer *offer, Error **errp);
 

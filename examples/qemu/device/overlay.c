@@ -82,6 +82,22 @@ void synic_map_overlays(void)
     memory_region_transaction_commit();
 }
 
+/* A page that may be stored in is dirty for a migration before it is: the BQL is held until it has been. */
+uint8_t *synic_find_page(uint64_t number, bool is_stored)
+{
+    hwaddr offset, length = PARTITION_PAGE;
+    RCU_READ_LOCK_GUARD();
+    if (number >> 52 != 0)
+        return NULL;
+    MemoryRegion *region = address_space_translate(&address_space_memory, number * PARTITION_PAGE, &offset, &length, is_stored,
+                                                   MEMTXATTRS_UNSPECIFIED);
+    if (length < PARTITION_PAGE || !memory_region_is_ram(region) || region->readonly)
+        return NULL;
+    if (is_stored)
+        memory_region_set_dirty(region, offset, PARTITION_PAGE);
+    return (uint8_t *)memory_region_get_ram_ptr(region) + offset;
+}
+
 /* ---- Moves ---- */
 
 /* No processor stores in a page while it moves: the board finds what the guest has stored before, and the TLBs of other

@@ -66,9 +66,11 @@ static void fill(uint64_t value, const void *bytes, size_t length)
         address_space_write(&address_space_memory, address, MEMTXATTRS_UNSPECIFIED, bytes, length);
 }
 
-static bool write_own(uint8_t vp, uint32_t msr, uint64_t value)
+static bool write_own(X86CPU *cpu, uint32_t msr, uint64_t value)
 {
-    enum partition_effect effect = partition_write(&synic.partition, vp, msr, value);
+    if (msr == MSR_VP_ASSIST)
+        synic_assist_leave(cpu);
+    enum partition_effect effect = partition_write(&synic.partition, CPU(cpu)->cpu_index, msr, value);
     struct partition_tsc_page page;
     uint8_t code[8];
     switch (effect) {
@@ -121,7 +123,7 @@ static bool write_register(X86CPU *cpu, uint32_t msr, uint64_t value)
     if (owner == PARTITION_OF_BOARD)
         return is_board_done(&(synicboard_event){ .kind = SYNICBOARD_WRITE, .vp = vp, .msr = msr, .value = value }, &value);
     bool is_taken = synic_take_bql();
-    bool is_done = owner == PARTITION_OF_APIC ? synic_apic_write(cpu, msr, value) : owner == PARTITION_OWN && write_own(vp, msr, value);
+    bool is_done = owner == PARTITION_OF_APIC ? synic_apic_write(cpu, msr, value) : owner == PARTITION_OWN && write_own(cpu, msr, value);
     synic_release_bql(is_taken);
     return is_done;
 }
@@ -162,5 +164,6 @@ void synic_reset_processor(X86CPU *cpu)
         return;
     synic_perform(&(synicboard_event){ .kind = SYNICBOARD_RESET, .vp = vp });
     synic.partition.assist[vp] = 0;
+    synic_assisted[vp] = 0;
     synic_map_overlays();
 }

@@ -8,6 +8,7 @@
 static struct saved {
     struct partition partition;
     uint32_t vps, features, length;
+    uint8_t assisted[PARTITION_VPS];
     uint8_t *image;
 } saved;
 
@@ -20,6 +21,7 @@ static int pre_save(void *opaque)
     saved.vps = synic.offer.vps;
     saved.features = synic.offer.features;
     saved.partition = synic.partition;
+    memcpy(saved.assisted, synic_assisted, sizeof(saved.assisted));
     return 0;
 }
 
@@ -35,6 +37,7 @@ static int post_load(void *opaque, int version)
         return -EINVAL;
     }
     synic.partition = saved.partition;
+    memcpy(synic_assisted, saved.assisted, sizeof(saved.assisted));
     synic_routes_restored();
     return 0;
 }
@@ -52,6 +55,7 @@ static const VMStateDescription description = {
         VMSTATE_UINT64(partition.hypercall, struct saved),
         VMSTATE_UINT64(partition.reference_tsc, struct saved),
         VMSTATE_UINT64_ARRAY(partition.assist, struct saved, PARTITION_VPS),
+        VMSTATE_UINT8_ARRAY(assisted, struct saved, PARTITION_VPS),
         VMSTATE_UINT32(length, struct saved),
         VMSTATE_VBUFFER_ALLOC_UINT32(image, struct saved, 1, NULL, length),
         VMSTATE_END_OF_LIST()

@@ -23,7 +23,9 @@ bool synic_wrmsr(CPUX86State *env, uintptr_t ra);
 /* The TSC: with a reference TSC page it is the virtual clock, since its rate has to be known. */
 bool synic_tsc(uint64_t *tsc);
 
-/* A local APIC delivers a vector to its processor: whether it ends at once, without an EOI. */
-bool synic_ends_at_delivery(X86CPU *cpu, int vector);
+/* A local APIC, whose registers IRR, TMR and ISR these are, delivers a vector to its processor: whether it ends at once,
+ * without an EOI. And it requests a vector, or gets an EOI. */
+bool synic_delivered(X86CPU *cpu, int vector, const uint32_t *irr, const uint32_t *tmr);
+void synic_assist_end(X86CPU *cpu, uint32_t *isr);
 
 #endif
