@@ -2,7 +2,6 @@
 #include "internal.h"
 #include "qapi/error.h"
 #include "qemu/error-report.h"
-#include "exec/exec-all.h"
 #include "tcg/helper-tcg.h"
 #include "synic.h"
 
