@@ -88,12 +88,13 @@ static void record_eoms(uint64_t eoms)
 
 static synicboard_reply perform(const synicboard_event *event)
 {
-    synicboard_live_reply live = synicboard_act_live(board, event);
-    answer(event, live.reply);
-    if (live.eoms != 0)
-        record_eoms(live.eoms);
+    synicboard_reply reply = synicboard_perform(board, event);
+    uint64_t eoms = synicboard_eoms(board);
+    answer(event, reply);
+    if (eoms != 0)
+        record_eoms(eoms);
     irqchip_collect();
-    return live.reply;
+    return reply;
 }
 
 static void observe(uint8_t vp)
