@@ -241,8 +241,8 @@ void synic_open_board(void)
 
 void synic_make_ready(void)
 {
-    qemu_mutex_lock(&lock);
     make_live(&board);
+    qemu_mutex_lock(&lock);
     synic_log_begin(&board, NULL, 0);
     qemu_mutex_unlock(&lock);
     synic_make_regions();
@@ -289,9 +289,11 @@ bool synic_restore_image(const uint8_t *image, size_t length, Error **errp)
     return true;
 }
 
+/* At the end of QEMU, which may come while the lock is held. */
 void synic_report(void)
 {
-    qemu_mutex_lock(&lock);
+    if (qemu_mutex_trylock(&lock) != 0)
+        return;
     synic_log_end(&board);
     fprintf(stderr, "synicboard: %" PRIu64 " events, %" PRIu64 " notices, %" PRIu64 " vectors forwarded; settled %" PRIu64 " times\n",
             events, notices_seen, forwarded, settled);
