@@ -59,6 +59,7 @@ CALL(synicboard_reply, synicboard_post, board == NULL || payload == NULL,
      synicboard *board, uint8_t port, uint32_t message_type, const uint8_t *payload, size_t length)
 EVENT_CALL(synicboard_signal, (board, port, flag), synicboard *board, uint8_t port, uint16_t flag)
 EVENT_CALL(synicboard_assert, (board, vp, vector), synicboard *board, uint8_t vp, uint8_t vector)
+EVENT_CALL(synicboard_assert_source, (board, vp, sint), synicboard *board, uint8_t vp, uint8_t sint)
 EVENT_CALL(synicboard_absorb, (board, vp, part, bits),
            synicboard *board, uint8_t vp, uint8_t part, uint64_t bits)
 CALL(synicboard_reply, synicboard_store, board == NULL || bytes == NULL,
@@ -82,6 +83,12 @@ CALL(synicboard_batch, synicboard_perform_all,
      synicboard *board, const synicboard_event *events, size_t count,
      synicboard_reply *replies, size_t reply_room, synicboard_notice *notices, size_t notice_room)
 
+CALL(synicboard_answer, synicboard_step, board == NULL || event == NULL || notices == NULL,
+     BOARD(board) EVENT(event) ROOM(notices, room, synicboard_notice),
+     (board, now, event, assisted, notices, room),
+     synicboard *board, uint64_t now, const synicboard_event *event, uint64_t assisted,
+     synicboard_notice *notices, size_t room)
+
 /* ---- Queries ----
  *
  * Contracts see a mutable handle, and that the board is the same afterwards. */
@@ -95,6 +102,8 @@ LOOK(bool, synicboard_no_eoi_required, (board, vp), const synicboard *board, uin
 LOOK(uint16_t, synicboard_queued, (board, vp, sint), const synicboard *board, uint8_t vp, uint8_t sint)
 LOOK(uint64_t, synicboard_moment, (board), const synicboard *board)
 LOOK(uint64_t, synicboard_next_ticket, (board), const synicboard *board)
+LOOK(synicboard_port_state, synicboard_port, (board, port), const synicboard *board, uint8_t port)
+LOOK(uint64_t, synicboard_next_bits, (board), const synicboard *board)
 LOOK(synicboard_page_owner, synicboard_owner, (board, page), const synicboard *board, uint64_t page)
 LOOK(synicboard_overlay, synicboard_next_overlay, (board, from), const synicboard *board, uint64_t from)
 CALL(synicboard_reply, synicboard_tick_due, board == NULL || due == NULL, BOARD(board) DUE(due),
@@ -127,15 +136,12 @@ CALL(synicboard_reply, synicboard_forward, board == NULL || forwarded == NULL, B
 
 /* ---- Live pages ---- */
 
-CALL(synicboard_live_reply, synicboard_act_live, board == NULL || event == NULL,
-     BOARD(board) EVENT(event), (board, event), synicboard *board, const synicboard_event *event)
+LOOK(uint64_t, synicboard_eoms, (board), const synicboard *board)
 EVENT_CALL(synicboard_observe, (board, vp), synicboard *board, uint8_t vp)
 EVENT_CALL(synicboard_observe_all, (board, vp), synicboard *board, uint8_t vp)
 LOOK(bool, synicboard_is_live, (board), const synicboard *board)
 
-/* ---- The reference TSC page ----
- *
- * These calls have no pointers. */
+/* ---- Calls without pointers ---- */
 
 #define VALUE_CALL(answer, name, arguments, ...) \
     answer proved_##name(__VA_ARGS__);           \
@@ -148,6 +154,8 @@ VALUE_CALL(synicboard_tsc_page, synicboard_tsc_page_at, (hz, tsc, time), uint64_
 VALUE_CALL(synicboard_tsc_page, synicboard_tsc_page_moved, (page, tsc, time),
            synicboard_tsc_page page, uint64_t tsc, uint64_t time)
 VALUE_CALL(uint64_t, synicboard_tsc_time, (page, tsc), synicboard_tsc_page page, uint64_t tsc)
+VALUE_CALL(uint64_t, synicboard_tsc_until, (page, time), synicboard_tsc_page page, uint64_t time)
+VALUE_CALL(bool, synicboard_has_register, (msr), uint32_t msr)
 
 /* ---- Lines ---- */
 
@@ -160,8 +168,8 @@ CALL(synicboard_reply, synicboard_absorb_line, board == NULL || line == NULL,
 /* ---- Texts ---- */
 
 CALL(synicboard_end, synicboard_save, board == NULL || room == NULL,
-     CONST_BOARD(board) ROOM(room, length, uint8_t), (board, room, length),
-     const synicboard *board, uint8_t *room, size_t length)
+     BOARD(board) ROOM(room, length, uint8_t), (board, room, length),
+     synicboard *board, uint8_t *room, size_t length)
 CALL(synicboard_end, synicboard_format_entry, event == NULL || reply == NULL || room == NULL,
      EVENT(event) REPLY(reply) ROOM(room, length, uint8_t), (actor, event, reply, room, length),
      uint8_t actor, const synicboard_event *event, const synicboard_reply *reply,

@@ -1,28 +1,70 @@
 /* The pages of a board are pages of the host, so that they can be mapped. The proved code allocates
- * each by a malloc of its size, and `./library` redirects its calls of malloc to this file. free also
- * frees what aligned_alloc returns. */
+ * each by a malloc of its size, and `./library` redirects its calls of malloc and free to this file. Live
+ * pages may lie in memory of the caller's, which is then not freed. */
+#include <pthread.h>
 #include <stdlib.h>
 #include "nulls.h"
 
 enum { PAGE = 4096, MOST = 128 };
 
-/* The blocks of a page's size that a thread has allocated, the last ones. */
-struct blocks { uint8_t *last[MOST]; unsigned count; };
+/* The blocks of a page's size that a thread allocates in a call of make_live: how many there were, the last of
+ * them, and where those from `first` on lie, if that is given. */
+struct blocks { uint8_t *last[MOST]; unsigned count; unsigned first; uint8_t *const *given; };
 
-/* Those of a call of synicboard_make_live in this thread; null outside of it. */
+/* Those of a call in this thread; null outside of it. */
 static _Thread_local struct blocks *seen;
 
+/* Pages of callers that boards use. */
+struct lent { struct lent *next; unsigned left; unsigned count; uint8_t *pages[]; };
+
+static struct lent *lents;
+static pthread_mutex_t lents_lock = PTHREAD_MUTEX_INITIALIZER;
+
 void *page_malloc(size_t size);
+void page_free(void *block);
 uint8_t proved_synicboard_make_live(synicboard *board);
 
 void *page_malloc(size_t size)
 {
     if (size != PAGE)
         return malloc(size);
-    void *block = aligned_alloc(PAGE, PAGE);
-    if (seen != NULL)
-        seen->last[seen->count++ % MOST] = block;
+    if (seen == NULL)
+        return aligned_alloc(PAGE, PAGE);
+    unsigned number = seen->count++;
+    uint8_t *block = seen->given != NULL && number >= seen->first ? seen->given[number - seen->first] : aligned_alloc(PAGE, PAGE);
+    seen->last[number % MOST] = block;
     return block;
+}
+
+/* Takes a page back that was lent, and forgets the pages of a board when none of them is lent. */
+static bool was_lent(const uint8_t *page)
+{
+    for (struct lent **at = &lents; *at != NULL; at = &(*at)->next) {
+        struct lent *lent = *at;
+        for (unsigned number = 0; number < lent->count; number++) {
+            if (lent->pages[number] != page)
+                continue;
+            lent->pages[number] = NULL;
+            if (--lent->left == 0) {
+                *at = lent->next;
+                free(lent);
+            }
+            return true;
+        }
+    }
+    return false;
+}
+
+void page_free(void *block)
+{
+    bool is_lent = false;
+    if (block != NULL && (uintptr_t)block % PAGE == 0) {
+        pthread_mutex_lock(&lents_lock);
+        is_lent = was_lent(block);
+        pthread_mutex_unlock(&lents_lock);
+    }
+    if (!is_lent)
+        free(block);
 }
 
 /* How many pages the processors have, two each. */
@@ -35,6 +77,14 @@ static unsigned count_pages(const synicboard *board)
     return 2U * processors;
 }
 
+static uint8_t make_live(synicboard *board, struct blocks *blocks)
+{
+    seen = blocks;
+    uint8_t answer = proved_synicboard_make_live(board);
+    seen = NULL;
+    return answer;
+}
+
 /* The proved call allocates the live pages last, in their order, each as one block. */
 uint8_t synicboard_make_live(synicboard *board, uint8_t **pages)
 {
@@ -42,13 +92,84 @@ uint8_t synicboard_make_live(synicboard *board, uint8_t **pages)
         return SYNICBOARD_NO_HANDLE;
     BOARD(board)
     struct blocks blocks = { .count = 0 };
-    seen = &blocks;
-    uint8_t answer = proved_synicboard_make_live(board);
-    seen = NULL;
+    uint8_t answer = make_live(board, &blocks);
     if (answer != SYNICBOARD_OK)
         return answer;
     unsigned count = count_pages(board);
     for (unsigned number = 0; number < count; number++)
         pages[number] = blocks.last[(blocks.count - count + number) % MOST];
     return SYNICBOARD_OK;
+}
+
+/* How many blocks the call allocates before the live pages: tried on a board of as many processors. */
+static uint8_t count_before(unsigned count, unsigned *before)
+{
+    synicboard board = SYNICBOARD_CLOSED;
+    struct blocks blocks = { .count = 0 };
+    uint8_t answer = synicboard_open_sparse(&board, (uint8_t)(count / 2), 0);
+    if (answer == SYNICBOARD_OK)
+        answer = make_live(&board, &blocks);
+    synicboard_close(&board);
+    *before = blocks.count - count;
+    return answer;
+}
+
+/* Pages that page_free does not free; null without memory. */
+static struct lent *lend(uint8_t *const *pages, unsigned count)
+{
+    struct lent *lent = malloc(sizeof *lent + count * sizeof *lent->pages);
+    if (lent == NULL)
+        return NULL;
+    lent->left = lent->count = count;
+    for (unsigned number = 0; number < count; number++)
+        lent->pages[number] = pages[number];
+    pthread_mutex_lock(&lents_lock);
+    lent->next = lents;
+    lents = lent;
+    pthread_mutex_unlock(&lents_lock);
+    return lent;
+}
+
+/* Takes back those from a number on. */
+static void take_back(uint8_t *const *pages, unsigned from, unsigned count)
+{
+    pthread_mutex_lock(&lents_lock);
+    for (unsigned number = from; number < count; number++)
+        was_lent(pages[number]);
+    pthread_mutex_unlock(&lents_lock);
+}
+
+/* Whether each is a page, and none is there twice. */
+static bool are_pages(uint8_t *const *pages, unsigned count)
+{
+    for (unsigned number = 0; number < count; number++) {
+        if (pages[number] == NULL || (uintptr_t)pages[number] % PAGE != 0)
+            return false;
+        for (unsigned other = 0; other < number; other++)
+            if (pages[other] == pages[number])
+                return false;
+    }
+    return true;
+}
+
+uint8_t synicboard_make_live_in(synicboard *board, uint8_t *const *pages)
+{
+    if (pages == NULL)
+        return SYNICBOARD_NO_HANDLE;
+    BOARD(board)
+    if (!board->is_open || synicboard_is_live(board))
+        return board->is_open ? SYNICBOARD_IS_LIVE : SYNICBOARD_IS_CLOSED;
+    unsigned count = count_pages(board);
+    struct blocks blocks = { .given = pages };
+    if (!are_pages(pages, count))
+        return SYNICBOARD_BAD_PAGE;
+    uint8_t answer = count_before(count, &blocks.first);
+    if (answer != SYNICBOARD_OK)
+        return answer;
+    if (lend(pages, count) == NULL)
+        return SYNICBOARD_NO_MEMORY;
+    answer = make_live(board, &blocks);
+    unsigned used = blocks.count < blocks.first ? 0 : blocks.count - blocks.first;
+    take_back(pages, answer == SYNICBOARD_OK ? count : used, count);
+    return answer;
 }

@@ -127,10 +127,10 @@ synicboard_reply synicboard_act(synicboard_shared *handle, uint8_t actor, const 
 {
     EVENT(event) ROOM(notices, room, synicboard_notice)
     struct shared *shared = locked(handle);
-    recorded *recorded = shared != NULL ? &shared->recorded : &(struct recorded){ 0 };
+    recorded *history = shared != NULL ? &shared->recorded : &(struct recorded){ 0 };
     synicboard_reply reply = shared != NULL && !shared->is_recorded
-        ? with_notices(&recorded->board, synicboard_perform(&recorded->board, event), notices, room)
-        : proved_synicboard_recorded_act(recorded, actor, event, notices, room);
+        ? with_notices(&history->board, synicboard_perform(&history->board, event), notices, room)
+        : proved_synicboard_recorded_act(history, actor, event, notices, room);
     synicboard_release(handle);
     return reply;
 }
@@ -139,10 +139,10 @@ synicboard_reply synicboard_act_absorb(synicboard_shared *handle, uint8_t actor,
 {
     LINE(line) ROOM(notices, room, synicboard_notice)
     struct shared *shared = locked(handle);
-    recorded *recorded = shared != NULL ? &shared->recorded : &(struct recorded){ 0 };
+    recorded *history = shared != NULL ? &shared->recorded : &(struct recorded){ 0 };
     synicboard_reply reply = shared != NULL && !shared->is_recorded
-        ? with_notices(&recorded->board, synicboard_absorb_line(&recorded->board, line, vp, part), notices, room)
-        : proved_synicboard_recorded_absorb(recorded, actor, line, vp, part, notices, room);
+        ? with_notices(&history->board, synicboard_absorb_line(&history->board, line, vp, part), notices, room)
+        : proved_synicboard_recorded_absorb(history, actor, line, vp, part, notices, room);
     synicboard_release(handle);
     return reply;
 }

@@ -20,6 +20,7 @@ static const char *const outcomes[] = {
     [SYNICBOARD_NOT_RECORDED] = "the shared board has no history",
     [SYNICBOARD_IS_LIVE] = "the board has live pages, and the call serves only others",
     [SYNICBOARD_NOT_LIVE] = "the board has no live pages",
+    [SYNICBOARD_BAD_PAGE] = "a page is null, not at a multiple of 4096, or there twice",
 };
 
 static const char *const refusals[] = {

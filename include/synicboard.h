@@ -66,7 +66,7 @@ typedef struct synicboard {
 
 /* Outcomes. One outcome has one name and one number, whichever call returns it. Each call says which ones
  * it returns. */
-enum {
+enum synicboard_outcome {
     SYNICBOARD_OK = 0,
     SYNICBOARD_BAD_SIZE = 1,            /* not 1 to 8 processors, or not 1 to 64 pages; sparse: not 1 to 64 processors */
     SYNICBOARD_NO_MEMORY = 2,           /* an allocation failed */
@@ -82,7 +82,8 @@ enum {
     SYNICBOARD_NO_TEXT = 12,            /* the text is null, and its length is not 0 */
     SYNICBOARD_NOT_RECORDED = 13,       /* the shared board has no history */
     SYNICBOARD_IS_LIVE = 14,            /* the board has live pages, and the call serves only others */
-    SYNICBOARD_NOT_LIVE = 15            /* the board has no live pages */
+    SYNICBOARD_NOT_LIVE = 15,           /* the board has no live pages */
+    SYNICBOARD_BAD_PAGE = 16            /* a page is null, not at a multiple of 4096, or there twice */
 };
 
 /* What an outcome, a refusal, or the kind of a notice means, in words: for the first two those of the comments here.
@@ -112,8 +113,8 @@ uint8_t synicboard_open_sparse(synicboard *board, uint8_t processors, uint64_t f
 void synicboard_close(synicboard *board);
 
 /* Kinds of replies. The comment names the fields of synicboard_reply that the kind uses. */
-enum {
-    SYNICBOARD_NOT_PERFORMED = 0,       /* `fault` is the outcome: IS_CLOSED, NO_LINE, NO_EVENT, IS_LIVE, NOT_LIVE, or NO_MEMORY
+enum synicboard_reply_kind {
+    SYNICBOARD_NOT_PERFORMED = 0,       /* `fault` is the outcome: IS_CLOSED, NO_LINE, NO_EVENT, NOT_LIVE, or NO_MEMORY
                                            if the history of a recorded board cannot grow; nothing has changed */
     SYNICBOARD_DONE = 1,
     SYNICBOARD_VALUE = 2,               /* `value` */
@@ -128,7 +129,7 @@ enum {
 };
 
 /* Why the board refused an event (docs/MACHINE.md, "Refusals"). */
-enum {
+enum synicboard_refusal {
     SYNICBOARD_UNKNOWN_PORT = 1,        /* the port is not open, or the board has none of that number */
     SYNICBOARD_PORT_OPEN = 2,           /* the port to open is already open */
     SYNICBOARD_WRONG_KIND = 3,          /* a post to a flag port, or a signal to a message port */
@@ -163,7 +164,7 @@ typedef struct synicboard_reply {
 } synicboard_reply;
 
 /* Register numbers, by their names in the TLFS (HV_X64_MSR_..). */
-enum {
+enum synicboard_register {
     SYNICBOARD_MSR_TIME_REF_COUNT = 0x40000020, /* the partition reference counter, in units of 100 ns */
     SYNICBOARD_MSR_EOI = 0x40000070,            /* end of interrupt */
     SYNICBOARD_MSR_TPR = 0x40000072,            /* task priority */
@@ -181,9 +182,9 @@ enum {
  *
  * One call for each kind of event. Each performs the event on the board and returns the reply. It
  * allocates nothing. With SYNICBOARD_NOT_PERFORMED, SYNICBOARD_REFUSED or
- * SYNICBOARD_GENERAL_PROTECTION, the board is unchanged. If the handle is closed, the fault is
- * SYNICBOARD_IS_CLOSED; if the board has live pages, SYNICBOARD_IS_LIVE; each call names the arguments that
- * yield SYNICBOARD_NO_EVENT.
+ * SYNICBOARD_GENERAL_PROTECTION, the board is unchanged, but for the guest's stores that were found in live
+ * pages. If the handle is closed, the fault is SYNICBOARD_IS_CLOSED; each call names the arguments that yield
+ * SYNICBOARD_NO_EVENT. All of them serve a board with live pages too (below).
  *
  * `vp` is the number of a processor, from 0. If it is not on the board, the refusal is
  * SYNICBOARD_NO_SUCH_PROCESSOR (for opening a port, SYNICBOARD_BAD_TARGET). "Replies:" lists the kinds
@@ -208,6 +209,9 @@ synicboard_reply synicboard_close_port(synicboard *board, uint8_t port);
  * Replies: DONE, GENERAL_PROTECTION, REFUSED. */
 synicboard_reply synicboard_write(synicboard *board, uint8_t vp, uint32_t msr, uint64_t value);
 
+/* Whether a register is a board's, of SYNICBOARD_MSR_.. : any other is the host's, or #GP. */
+bool synicboard_has_register(uint32_t msr);
+
 /* A guest reads a register.
  * Replies: VALUE, GENERAL_PROTECTION, REFUSED. */
 synicboard_reply synicboard_read(synicboard *board, uint8_t vp, uint32_t msr);
@@ -224,6 +228,11 @@ synicboard_reply synicboard_signal(synicboard *board, uint8_t port, uint16_t fla
 /* A device requests a vector of a processor. SYNICBOARD_NO_EVENT if `vector` is below 16.
  * Replies: DONE, REFUSED. */
 synicboard_reply synicboard_assert(synicboard *board, uint8_t vp, uint8_t vector);
+
+/* Asserts source `sint` of processor `vp`, as a message or a signal to it would: requests its vector, unless SINTx
+ * is masked or polling. SYNICBOARD_NO_EVENT if `sint` is above 15.
+ * Replies: DONE, REFUSED. */
+synicboard_reply synicboard_assert_source(synicboard *board, uint8_t vp, uint8_t sint);
 
 /* Requests posted vectors. Bit i of `bits` is vector 64 * part + i; `part` is 0 to 3. Vectors below 16
  * are ignored.
@@ -272,7 +281,7 @@ synicboard_reply synicboard_reset(synicboard *board, uint8_t vp);
 synicboard_reply synicboard_send(synicboard *board, uint8_t vector, uint64_t mask);
 
 /* Kinds of events. The comment names the fields of synicboard_event that the kind uses. */
-enum {
+enum synicboard_event_kind {
     SYNICBOARD_OPEN_MESSAGE_PORT = 1,   /* port, vp, sint, buffers */
     SYNICBOARD_OPEN_EVENT_PORT = 2,     /* port, vp, sint, flag (the base), count */
     SYNICBOARD_CLOSE_PORT = 3,          /* port */
@@ -319,7 +328,7 @@ synicboard_reply synicboard_perform(synicboard *board, const synicboard_event *e
 /* ---- Notices ---- */
 
 /* Kinds of notices. The comment names the fields of synicboard_notice that the kind uses. */
-enum {
+enum synicboard_notice_kind {
     SYNICBOARD_NOTICE_ACCEPTED = 1,     /* ticket, vp, sint */
     SYNICBOARD_NOTICE_PLACED = 2,       /* ticket, vp, sint */
     SYNICBOARD_NOTICE_PENDING = 3,      /* vp, sint */
@@ -364,8 +373,46 @@ typedef struct synicboard_batch {
 /* Performs events in order. Stops before an event that is invalid, or for which `replies` has no free
  * element, or `notices` fewer than SYNICBOARD_MOST_NOTICES free ones; if it is invalid too, the end is
  * SYNICBOARD_NO_ROOM. The reply to events[i] is replies[i]. The notices of all events follow one
- * another in `notices`; the `notices` field of each reply counts its own. */
+ * another in `notices`; the `notices` field of each reply counts its own. Serves no board with live pages: there
+ * the end is SYNICBOARD_IS_LIVE. */
 synicboard_batch synicboard_perform_all(synicboard *board, const synicboard_event *events, size_t count, synicboard_reply *replies, size_t reply_room, synicboard_notice *notices, size_t notice_room);
+
+/* ---- One call for an exit of the guest ---- */
+
+/* When a host must tick next. */
+typedef struct synicboard_next_tick {
+    bool is_set;                        /* no tick makes a timer expire if not */
+    uint64_t moment;
+} synicboard_next_tick;
+
+/* What became of an event, and all that the host must do next. Each field after `eoms` says how the board is, not
+ * what has changed, so nothing is lost if an answer is not looked at. */
+typedef struct synicboard_answer {
+    synicboard_reply reply;             /* to the event; its `notices` are those of the event alone */
+    size_t notices;                     /* of the clock and the event: the first of them are in the room */
+    uint64_t clock_eoms;                /* the EOMs after the clock has moved, as synicboard_eoms returns them */
+    uint64_t eoms;                      /* those after the event */
+    uint64_t next;                      /* bit p iff processor p has a next vector: its thread takes it */
+    uint64_t end_assist;                /* of `assisted`, those of which an EOI is required */
+    synicboard_next_tick alarm;         /* when the host must tick next (synicboard_alarm) */
+} synicboard_answer;
+
+/* Moves the clock to `now`, as synicboard_tick does, if that is later than the board's time, and then performs the
+ * event, if there is one: with a null event, or one of no valid kind, the fault is SYNICBOARD_NO_EVENT, and the clock
+ * has moved. So a host passes its clock with each exit, and a register write never comes before the expiries that
+ * are due by then. Copies the notices of both, in order, as many as fit into `room` elements.
+ *
+ * Bit p of `assisted` says that the host has set "No EOI required" in the assist page of processor p and has not found
+ * it clear: where `end_assist` has the bit, the host clears it. 0 if the host has no assist pages.
+ *
+ * After each answer a host wakes the threads of the processors in `next`, or, if the local APICs are its own, requests
+ * there what synicboard_forward returns for each of them; clears assist pages; arms its timer for `alarm`, and calls
+ * this with a null event when it fires. After a write of SIMP or SIEFP, or a reset, it maps the overlays again
+ * (synicboard_next_overlay). */
+synicboard_answer synicboard_step(synicboard *board, uint64_t now, const synicboard_event *event, uint64_t assisted, synicboard_notice *notices, size_t room);
+
+/* The processors that have a next vector: bit p for processor p. 0 if the handle is closed. */
+uint64_t synicboard_next_bits(const synicboard *board);
 
 /* ---- Posted vectors ----
  *
@@ -405,7 +452,7 @@ uint8_t synicboard_split_line(synicboard_line *line, synicboard_line *other);
 void synicboard_close_line(synicboard_line *line);
 
 /* Results of synicboard_raise. */
-enum {
+enum synicboard_raised {
     SYNICBOARD_NOT_RAISED = 0,          /* closed handle, no such processor, or a vector below 16 */
     SYNICBOARD_FRESH = 1,               /* the bit was clear: kick the processor */
     SYNICBOARD_ALREADY = 2              /* the bit was already set: no kick needed */
@@ -437,6 +484,24 @@ uint16_t synicboard_queued(const synicboard *board, uint8_t vp, uint8_t sint);
 uint64_t synicboard_moment(const synicboard *board);
 /* The ticket that the next accepted message gets; 0 if the handle is closed. */
 uint64_t synicboard_next_ticket(const synicboard *board);
+
+/* A port, as it was opened: after a restore, a host finds its ports so. */
+typedef struct synicboard_port_state {
+    uint8_t kind;                       /* SYNICBOARD_PORT_.. ; if it is closed, all is 0 */
+    uint8_t vp;
+    uint8_t sint;
+    uint8_t buffers;                    /* of messages */
+    uint16_t base;                      /* of event flags */
+    uint16_t count;
+} synicboard_port_state;
+
+enum synicboard_port_kind {
+    SYNICBOARD_PORT_CLOSED = 0,
+    SYNICBOARD_PORT_MESSAGES = 1,
+    SYNICBOARD_PORT_FLAGS = 2
+};
+
+synicboard_port_state synicboard_port(const synicboard *board, uint8_t port);
 
 /* A local APIC (SDM volume 3, "Local APIC State"). Bit i of word k is vector 64 * k + i. */
 typedef struct synicboard_local_apic {
@@ -499,7 +564,7 @@ synicboard_timer_state synicboard_timer(const synicboard *board, uint8_t vp, uin
 bool synicboard_slot(const synicboard *board, uint8_t vp, uint8_t sint, uint64_t *ticket);
 
 /* Which page is visible at a page number. */
-enum {
+enum synicboard_owner_kind {
     SYNICBOARD_OWNER_NOTHING = 0,       /* no such page, or the handle is closed */
     SYNICBOARD_OWNER_GUEST = 1,         /* the guest page, of a sparse board the caller's */
     SYNICBOARD_OWNER_MESSAGES = 2,      /* the message page of `vp` */
@@ -541,12 +606,6 @@ synicboard_due synicboard_earliest(const synicboard *board);
 /* The earliest deadline that is later than `moment`. A timer that is late by more than a period has its next
  * deadline before the present, and is not among them: a host arms its timer for synicboard_alarm. */
 synicboard_due synicboard_earliest_after(const synicboard *board, uint64_t moment);
-
-/* When a host must tick next. */
-typedef struct synicboard_next_tick {
-    bool is_set;                        /* no tick makes a timer expire if not */
-    uint64_t moment;
-} synicboard_next_tick;
 
 /* The least time after the present at which a tick makes a timer expire or skip periods: a host arms its timer for
  * it. A timer that is late, such as one of more than 32 that were due, has it at the next moment; one that is not
@@ -627,9 +686,11 @@ bool synicboard_guest_page(const synicboard *board, uint64_t number, const uint8
  * performs these stores, and then the event. A message that the guest has consumed has its notice CONSUMED at
  * the next event, or call of synicboard_observe, that looks at its slot.
  *
- * Of the calls that perform events, only synicboard_act_live, synicboard_absorb_line, synicboard_act_absorb and
- * synicboard_forward serve such a board; for the others the fault, or the end of a batch, is SYNICBOARD_IS_LIVE. All queries serve it; those that
- * return pages return the board's own, as it knows them. */
+ * All calls that perform events serve such a board, but synicboard_perform_all. A store or a load at a page where
+ * the guest sees a live page is refused as SYNICBOARD_ELSEWHERE: the caller performs it in the live page. The
+ * notices of an event are those of the guest's stores that were found before it, of the event, of the stores that were
+ * found after it, and of the EOMs that the board performs (synicboard_eoms), in this order. All queries serve it; those
+ * that return pages return the board's own, as it knows them. */
 
 /* Gives the board live pages, which have the bytes of its own pages; a processor that is in the guest must not
  * see these any more. Stores the addresses of the live pages in `pages`, two for each processor: the message
@@ -641,32 +702,27 @@ bool synicboard_guest_page(const synicboard *board, uint64_t number, const uint8
  * SYNICBOARD_OK, nothing changes. */
 uint8_t synicboard_make_live(synicboard *board, uint8_t **pages);
 
+/* The same in pages of the caller's, which it may have mapped already: `pages` has their addresses, in that order. They
+ * are the board's until it is closed, and are not freed then. A board that is restored later may have them again, at
+ * the same places. What was in them is lost, also if an allocation fails.
+ *
+ * Returns what synicboard_make_live returns; SYNICBOARD_BAD_PAGE if a page is null, not at a multiple of 4096, or
+ * there twice. */
+uint8_t synicboard_make_live_in(synicboard *board, uint8_t *const *pages);
+
 /* Whether the board has live pages. */
 bool synicboard_is_live(const synicboard *board);
 
-/* The reply to an event on a board that may have live pages. */
-typedef struct synicboard_live_reply {
-    synicboard_reply reply;
-    uint64_t eoms;                      /* the processors of which the board performed an EOM: bit p for processor p */
-} synicboard_live_reply;
-
-/* No event, and no synicboard_observe, emits more notices on a board with live pages. Only a tick of a board of many
- * processors comes near it: one copies them in parts, or into static memory. */
+/* No event, and no synicboard_observe or synicboard_save, emits more notices on a board with live pages. Only a tick
+ * of a board of many processors comes near it: one copies them in parts, or into static memory. */
 #define SYNICBOARD_MOST_LIVE_NOTICES 22720
 
-/* Performs an event that is given as a struct, on a board with live pages or without. A store or a load at a page
- * where the guest sees a live page is refused as SYNICBOARD_ELSEWHERE: the caller performs it in the live page.
- *
- * An event that is refused changes nothing but what the guest's stores have changed, which were found first.
- *
- * If a tick or a write of a timer's register leaves a message waiting whose slot the guest has emptied meanwhile,
- * perhaps without a look at MessagePending, the board writes EOM of that processor itself in the same call, which
- * places the message. `eoms` has these processors, in the order of their numbers: a host that logs events appends
- * a write of 0 to SYNICBOARD_MSR_EOM for each, with the reply SYNICBOARD_DONE.
- *
- * The notices are those of the guest's stores that were found before the event, of the event, of the stores that were
- * found after it, and of the EOMs, in this order: synicboard_notices returns them. */
-synicboard_live_reply synicboard_act_live(synicboard *board, const synicboard_event *event);
+/* The processors of which the board performed an EOM after the last event: bit p for processor p. If a tick or a
+ * write of a timer's register leaves a message waiting whose slot the guest has emptied meanwhile, perhaps without a
+ * look at MessagePending, the board writes EOM of that processor itself in the same call, which places the message. A
+ * host that logs events appends a write of 0 to SYNICBOARD_MSR_EOM for each, in the order of their numbers, with the
+ * reply SYNICBOARD_DONE. 0 without live pages, or if the handle is closed. */
+uint64_t synicboard_eoms(const synicboard *board);
 
 /* Looks at the message slots of a processor, if the guest sees its message page, so that the notices are those of
  * the messages that it has consumed. The fault is SYNICBOARD_NOT_LIVE if the board has no live pages.
@@ -674,9 +730,8 @@ synicboard_live_reply synicboard_act_live(synicboard *board, const synicboard_ev
 synicboard_reply synicboard_observe(synicboard *board, uint8_t vp);
 
 /* Looks at all words of both live pages of a processor that the guest sees: the board's own pages have what the guest
- * has stored. Before synicboard_save, for each processor, while the guest does not run. A write of SIMP or SIEFP does
- * the same first, for the pages that it may hide. Notices and fault are those of synicboard_observe; a call that is
- * refused keeps the notices of the event before.
+ * has stored. synicboard_save does the same of each processor, and a write of SIMP or SIEFP for the pages that it may
+ * hide. Notices and fault are those of synicboard_observe; a call that is refused keeps the notices of the event before.
  * Replies: DONE, REFUSED. */
 synicboard_reply synicboard_observe_all(synicboard *board, uint8_t vp);
 
@@ -703,6 +758,10 @@ synicboard_tsc_page synicboard_tsc_page_moved(synicboard_tsc_page page, uint64_t
  * it is near 2^64. Do not pass such a time to synicboard_tick, which would refuse all others after it. */
 uint64_t synicboard_tsc_time(synicboard_tsc_page page, uint64_t tsc);
 
+/* The first value of the TSC from which on the time of a page is at least `time`, as long as it does not wrap: what a host
+ * sets a timer of its TSC to for synicboard_alarm. 0 if that was before the TSC was 0, and 2^64 - 1 if it never is. */
+uint64_t synicboard_tsc_until(synicboard_tsc_page page, uint64_t time);
+
 /* ---- Texts ----
  *
  * Scripts, traces and images, in the formats of docs/FORMATS.md. */
@@ -720,8 +779,9 @@ typedef struct synicboard_end {
 synicboard_end synicboard_replay(const uint8_t *script, size_t script_length, uint8_t *room, size_t length);
 
 /* Writes the image of a board to `room`, as much as fits. With SYNICBOARD_IS_CLOSED or SYNICBOARD_NO_MEMORY
- * nothing is written. */
-synicboard_end synicboard_save(const synicboard *board, uint8_t *room, size_t length);
+ * nothing is written. If the board has live pages, it looks at all words of those that the guest sees first, so the
+ * image has what the guest stored before; the notices are those of these stores. Stop the guest first. */
+synicboard_end synicboard_save(synicboard *board, uint8_t *room, size_t length);
 
 /* Restores a board from an image, in a closed handle. Each line is checked against those before it, so an
  * image that was cut, changed or forged gives SYNICBOARD_WRONG_LINE, or a board with the invariants of every

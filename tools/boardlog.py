@@ -61,7 +61,6 @@ def events_of(text):
     lines = [line for line in text.splitlines() if line and not line.startswith("#")]
     if lines[:1] == TITLE_OF_AN_IMAGE or lines[:1] in TITLES and lines[1:2] == IMAGE:
         raise Fault(NO_IMAGES)
-    board = lines[1:2] if lines[:1] in TITLES else lines[:1]
     if lines[:1] in TITLES:
         numbered = [line.split(" ", 1) for line in lines[2:] if line[0].isdigit()]
         return lines[1], [(event, int(actor)) for actor, event in numbered]

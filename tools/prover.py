@@ -1,6 +1,7 @@
-"""The dependencies of the crates, and the command that has the toolchain check a crate against the
-libraries that `rt ci` proved in this checkout."""
+"""The dependencies of the crates and the minutes of their proofs, what a built file was made from, and the command that
+has the toolchain check a crate against the libraries that `rt ci` proved in this checkout."""
 
+import hashlib
 import os
 import subprocess
 
@@ -28,6 +29,44 @@ def below(crates, name):
                 found.add(library)
                 left.append(library)
     return [library for library in crates if library in found]
+
+
+def minutes():
+    """The processor-minutes of each crate's proof, mutants and tests, as tools/minutes has them."""
+    with open(os.path.join(ROOT, "tools", "minutes"), encoding="utf-8") as file:
+        rows = [line.split() for line in file if line.strip() and not line.startswith("#")]
+    return {crate: tuple(map(float, some)) for crate, *some in rows}
+
+
+def checksum(crate, built):
+    """Of what a crate is made from: the sources of it and of those below it, and what they depend on; and of a file built of it."""
+    crates, found = libraries(), hashlib.sha256()
+    for name in below(crates, crate) + [crate]:
+        found.update(repr((name, crates[name])).encode())
+        for part in ("src", "specs", "proofs"):
+            for folder, folders, files in os.walk(os.path.join(ROOT, "crates", name, part)):
+                folders.sort()
+                for path in (os.path.join(folder, file) for file in sorted(files)):
+                    with open(path, "rb") as file:
+                        found.update(repr((os.path.relpath(path, ROOT), file.read())).encode())
+    with open(built, "rb") as file:
+        found.update(file.read())
+    return found.hexdigest()
+
+
+def mark(crate, built):
+    """Notes, next to a file built of a crate, from what it was made."""
+    with open(built + ".made", "w", encoding="ascii") as file:
+        file.write(checksum(crate, built))
+
+
+def is_current(crate, built):
+    """Whether a file was built of the present sources of a crate."""
+    try:
+        with open(built + ".made", encoding="ascii") as file:
+            return file.read() == checksum(crate, built)
+    except FileNotFoundError:
+        return False
 
 
 def kit():

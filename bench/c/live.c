@@ -51,7 +51,7 @@ static double measure(const synicboard_event *event)
 {
     double begin = now();
     for (unsigned long count = 0; count < events; count++)
-        synicboard_act_live(&board, event);
+        synicboard_perform(&board, event);
     return (now() - begin) / (double)events;
 }
 
@@ -66,12 +66,12 @@ static double measure_post(bool is_live)
     double of_clock = now() - begin;
     for (unsigned long count = 0; count < events; count++) {
         begin = now();
-        synicboard_act_live(&board, &post);
+        synicboard_perform(&board, &post);
         sum += now() - begin;
         if (is_live)
             memset(pages[0] + SINT * SLOT, 0, 4);
         else
-            synicboard_act_live(&board, &empty);
+            synicboard_perform(&board, &empty);
     }
     return (sum - of_clock) / (double)events;
 }

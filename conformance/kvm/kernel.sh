@@ -1,3 +1,4 @@
+# shellcheck shell=sh disable=SC2154
 # A Debian kernel for a virtual machine: sourced by conformance/kvm/run, conformance/guest/run, conformance/guest/xen and
 # tests/kvm/linux, which set $name (of the script, for its lines), $kernel (6.1 or 6.12) and $work (a folder), and may
 # set $flavour: that for cloud machines cannot be the first domain of Xen.

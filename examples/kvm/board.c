@@ -79,11 +79,12 @@ static synicboard_reply answer(const synicboard_event *event, synicboard_reply r
 
 static synicboard_reply perform(const synicboard_event *event)
 {
-    synicboard_live_reply live = synicboard_act_live(board, event);
-    answer(event, live.reply);
-    trace_eoms(live.eoms);
+    synicboard_reply reply = synicboard_perform(board, event);
+    uint64_t eoms = synicboard_eoms(board);
+    answer(event, reply);
+    trace_eoms(eoms);
     irqchip_collect();
-    return live.reply;
+    return reply;
 }
 
 static void observe(uint8_t vp)

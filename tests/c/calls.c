@@ -313,6 +313,14 @@ static void test_tsc_page(void)
     CHECK_NUMBER(synicboard_tsc_time(page, 1002700000000), 10000005);
     CHECK_NUMBER(synicboard_tsc_time(page, 0), UINT64_C(18446744070005847918));
     CHECK_NUMBER(synicboard_tsc_time(page, UINT64_MAX), 68321270643368714);
+    for (uint64_t time = 5; time < 2000; time += 7) {
+        uint64_t tsc = synicboard_tsc_until(page, time);
+        CHECK(synicboard_tsc_time(page, tsc) == time && synicboard_tsc_time(page, tsc - 1) == time - 1);
+    }
+    CHECK_NUMBER(synicboard_tsc_until(page, 68321270643368715), UINT64_MAX);
+    CHECK_NUMBER(synicboard_tsc_until((synicboard_tsc_page){ 1, 10 }, 5), 0);
+    CHECK_NUMBER(synicboard_tsc_until((synicboard_tsc_page){ 0, 0 }, 1), UINT64_MAX);
+    CHECK_NUMBER(synicboard_tsc_until((synicboard_tsc_page){ 0, 7 }, 7), 0);
     page = synicboard_tsc_page_moved(page, 7, UINT64_MAX);
     CHECK_NUMBER(page.scale, 68321274347072413);
     CHECK_NUMBER(synicboard_tsc_time(page, 7), UINT64_MAX);

@@ -6,6 +6,7 @@
 #include <string.h>
 
 #include "busy.h"
+#include "by_call.h"
 #include "checks.h"
 #include "synicboard.h"
 
@@ -23,9 +24,9 @@ static void open_live(synicboard *board)
 
 static synicboard_reply act(synicboard *board, synicboard_event event)
 {
-    synicboard_live_reply live = synicboard_act_live(board, &event);
-    CHECK_NUMBER(live.eoms, 0);
-    return live.reply;
+    synicboard_reply reply = synicboard_perform(board, &event);
+    CHECK_NUMBER(synicboard_eoms(board), 0);
+    return reply;
 }
 
 static synicboard_reply post(synicboard *board, uint32_t type)
@@ -67,8 +68,7 @@ static void test_outcomes(void)
     CHECK_NUMBER(synicboard_make_live(&board, NULL), SYNICBOARD_NO_HANDLE);
     CHECK(!synicboard_is_live(&board) && !synicboard_is_live(NULL));
     CHECK_FAULT(synicboard_observe(&board, 0), SYNICBOARD_IS_CLOSED);
-    CHECK_FAULT(synicboard_act_live(&board, &(synicboard_event){ .kind = SYNICBOARD_TAKE }).reply, SYNICBOARD_IS_CLOSED);
-    CHECK_FAULT(synicboard_act_live(NULL, NULL).reply, SYNICBOARD_IS_CLOSED);
+    CHECK(synicboard_eoms(&board) == 0 && synicboard_eoms(NULL) == 0);
     CHECK_FAULT(synicboard_observe(NULL, 0), SYNICBOARD_IS_CLOSED);
     CHECK_FAULT(synicboard_observe_all(NULL, 0), SYNICBOARD_IS_CLOSED);
     CHECK_NUMBER(synicboard_open(&board, 2, 4, 0), SYNICBOARD_OK);
@@ -79,7 +79,7 @@ static void test_outcomes(void)
     CHECK_NUMBER(synicboard_make_live(&board, pages), SYNICBOARD_OK);
     CHECK(synicboard_is_live(&board));
     CHECK_NUMBER(synicboard_make_live(&board, pages), SYNICBOARD_IS_LIVE);
-    CHECK_FAULT(synicboard_act_live(&board, NULL).reply, SYNICBOARD_NO_EVENT);
+    CHECK_FAULT(synicboard_perform(&board, NULL), SYNICBOARD_NO_EVENT);
     CHECK_REFUSAL(synicboard_observe(&board, 2), SYNICBOARD_NO_SUCH_PROCESSOR);
     CHECK_REFUSAL(synicboard_observe_all(&board, 255), SYNICBOARD_NO_SUCH_PROCESSOR);
     synicboard_close(&board);
@@ -191,19 +191,10 @@ static void test_other_calls(void)
     static const synicboard_event take = { .kind = SYNICBOARD_TAKE };
     synicboard_reply replies[1];
     synicboard_notice notices[SYNICBOARD_MOST_NOTICES];
-    synicboard_due due;
     synicboard_line line = SYNICBOARD_LINE_CLOSED;
     synicboard board = SYNICBOARD_CLOSED;
     open_live(&board);
     describe(&board, &before);
-    CHECK_FAULT(synicboard_perform(&board, &take), SYNICBOARD_IS_LIVE);
-    CHECK_FAULT(synicboard_take(&board, 1), SYNICBOARD_IS_LIVE);
-    CHECK_FAULT(synicboard_assert(&board, 1, 15), SYNICBOARD_IS_LIVE);
-    CHECK_FAULT(synicboard_send(&board, 15, 3), SYNICBOARD_IS_LIVE);
-    CHECK_FAULT(synicboard_post(&board, MESSAGE_PORT, 1, NULL, 0), SYNICBOARD_IS_LIVE);
-    CHECK_FAULT(synicboard_post(&board, MESSAGE_PORT, 1, NULL, 241), SYNICBOARD_IS_LIVE);
-    CHECK_FAULT(synicboard_store(&board, 0, (const uint8_t[]){ 1 }, 1), SYNICBOARD_IS_LIVE);
-    CHECK_FAULT(synicboard_tick_due(&board, 1000, &due), SYNICBOARD_IS_LIVE);
     synicboard_batch batch = synicboard_perform_all(&board, &take, 1, replies, 1, notices, SYNICBOARD_MOST_NOTICES);
     CHECK(batch.end == SYNICBOARD_IS_LIVE && batch.done == 0 && batch.emitted == 0);
     describe(&board, &after);
@@ -219,19 +210,18 @@ static void test_other_calls(void)
     synicboard_close(&board);
 }
 
-/* On a board without live pages it is synicboard_perform. */
-static void test_plain_board(void)
+/* Each event by a call of its own does what it does as a struct. */
+static void test_calls(void)
 {
     synicboard one = SYNICBOARD_CLOSED, other = SYNICBOARD_CLOSED;
     uint64_t random = 1;
-    open_busy(&one, 0);
-    open_busy(&other, 0);
+    open_live(&one);
+    open_live(&other);
     for (unsigned count = 0; count < RANDOM_EVENTS; count++) {
         synicboard_event event = random_event(&one, &random);
-        synicboard_live_reply live = synicboard_act_live(&one, &event);
-        synicboard_reply reply = synicboard_perform(&other, &event);
-        CHECK_NUMBER(live.eoms, 0);
-        CHECK(live.reply.kind == reply.kind && live.reply.refusal == reply.refusal && live.reply.notices == reply.notices);
+        synicboard_reply reply = synicboard_perform(&one, &event), same = perform_by_call(&other, &event);
+        CHECK(reply.kind == same.kind && reply.refusal == same.refusal && reply.notices == same.notices && reply.value == same.value && reply.ticket == same.ticket);
+        CHECK_NUMBER(synicboard_eoms(&one), synicboard_eoms(&other));
     }
     describe(&one, &before);
     describe(&other, &after);
@@ -378,9 +368,9 @@ static void test_hostile_guest(void)
         memcpy(pages[MESSAGES + (word >> 60 & 1)] + (word >> 32) % (PAGE / 8) * 8, &word, sizeof word);
         CHECK_NUMBER(synicboard_observe(&board, 0).notices, 0);
         synicboard_event event = random_event(&board, &random);
-        synicboard_live_reply live = synicboard_act_live(&board, &event);
-        CHECK(live.reply.kind != SYNICBOARD_NOT_PERFORMED || live.reply.fault == SYNICBOARD_NO_EVENT);
-        CHECK((live.eoms & ~3u) == 0);
+        synicboard_reply reply = synicboard_perform(&board, &event);
+        CHECK(reply.kind != SYNICBOARD_NOT_PERFORMED || reply.fault == SYNICBOARD_NO_EVENT);
+        CHECK((synicboard_eoms(&board) & ~3u) == 0);
     }
     CHECK_REPLY(synicboard_observe_all(&board, 0), SYNICBOARD_DONE);
     CHECK_REPLY(synicboard_observe_all(&board, 1), SYNICBOARD_DONE);
@@ -389,7 +379,7 @@ static void test_hostile_guest(void)
 
 /* ---- Images ---- */
 
-/* What the guest has stored in a payload and among the flags is in the image after synicboard_observe_all. */
+/* The image has what the guest has stored in a payload and among the flags. */
 static void test_image(void)
 {
     static uint8_t image[1 << 17];
@@ -400,11 +390,12 @@ static void test_image(void)
     pages[FLAGS][PAGE - 1] = 0x5a;
     pages[FLAGS][SOURCE * SLOT + 1] = 0;
     CHECK(!is_same_page(&board, 1));
-    CHECK_REPLY(synicboard_observe_all(&board, 1), SYNICBOARD_DONE);
-    CHECK_NOTICES(&board, SYNICBOARD_NOTICE_CONSUMED);
-    CHECK(is_same_page(&board, 1));
     synicboard_end end = synicboard_save(&board, image, sizeof image);
     CHECK(end.kind == SYNICBOARD_OK && end.length <= sizeof image);
+    CHECK_NOTICES(&board, SYNICBOARD_NOTICE_CONSUMED);
+    CHECK(is_same_page(&board, 1));
+    CHECK_REPLY(synicboard_observe_all(&board, 1), SYNICBOARD_DONE);
+    CHECK_NUMBER(synicboard_notices(&board, NULL, 0), 0);
     describe(&board, &before);
     synicboard_close(&board);
     CHECK_NUMBER(synicboard_restore(&board, image, end.length).kind, SYNICBOARD_OK);
@@ -417,6 +408,87 @@ static void test_image(void)
     synicboard_close(&board);
 }
 
+/* ---- Pages of the caller's ---- */
+
+static uint8_t own[2 * MOST_PROCESSORS][PAGE] __attribute__((aligned(4096)));
+static uint8_t *places[2 * MOST_PROCESSORS];
+
+static void set_places(void)
+{
+    for (size_t at = 0; at < 2 * MOST_PROCESSORS; at++)
+        places[at] = own[2 * MOST_PROCESSORS - 1 - at];
+}
+
+/* They are where the caller says, and the same after a restore; closing leaves them alone. */
+static void test_own_pages(void)
+{
+    static uint8_t image[1 << 17];
+    synicboard board = SYNICBOARD_CLOSED;
+    set_places();
+    memcpy(pages, places, sizeof pages);
+    memset(own, 0xee, sizeof own);
+    open_busy(&board, 0);
+    CHECK_NUMBER(synicboard_make_live_in(&board, places), SYNICBOARD_OK);
+    CHECK(synicboard_is_live(&board) && is_same_page(&board, 0) && is_same_page(&board, 1));
+    CHECK(places[4][0] == 0xee && own[0][0] == 0xee);
+    memset(places[MESSAGES] + TYPE_AT, 0, 4);
+    CHECK_REPLY(synicboard_observe(&board, 1), SYNICBOARD_DONE);
+    CHECK_NOTICES(&board, SYNICBOARD_NOTICE_CONSUMED);
+    CHECK_REPLY(post(&board, 0x1234), SYNICBOARD_ACCEPTED);
+    CHECK(places[MESSAGES][TYPE_AT] == 0x34);
+    synicboard_end end = synicboard_save(&board, image, sizeof image);
+    synicboard_close(&board);
+    CHECK(places[MESSAGES][TYPE_AT] == 0x34);
+    memset(own, 0, sizeof own);
+    CHECK_NUMBER(synicboard_restore(&board, image, end.length).kind, SYNICBOARD_OK);
+    CHECK_NUMBER(synicboard_make_live_in(&board, places), SYNICBOARD_OK);
+    CHECK(is_same_page(&board, 0) && is_same_page(&board, 1) && places[MESSAGES][TYPE_AT] == 0x34);
+    synicboard_close(&board);
+}
+
+static void test_own_pages_of_the_greatest_board(void)
+{
+    synicboard board = SYNICBOARD_CLOSED;
+    set_places();
+    memcpy(pages, places, sizeof pages);
+    memset(own, 0xee, sizeof own);
+    CHECK_NUMBER(synicboard_open_sparse(&board, MOST_PROCESSORS, 0), SYNICBOARD_OK);
+    CHECK_NUMBER(synicboard_make_live_in(&board, places), SYNICBOARD_OK);
+    for (uint8_t vp = 0; vp < MOST_PROCESSORS; vp++)
+        CHECK(is_same_page(&board, vp));
+    synicboard_close(&board);
+    memset(own, 0xee, sizeof own);
+}
+
+static void test_wrong_pages(void)
+{
+    synicboard board = SYNICBOARD_CLOSED;
+    set_places();
+    CHECK_NUMBER(synicboard_make_live_in(&board, places), SYNICBOARD_IS_CLOSED);
+    CHECK_NUMBER(synicboard_make_live_in(NULL, places), SYNICBOARD_IS_CLOSED);
+    CHECK_NUMBER(synicboard_make_live_in(&board, NULL), SYNICBOARD_NO_HANDLE);
+    open_busy(&board, 0);
+    places[3] = NULL;
+    CHECK_NUMBER(synicboard_make_live_in(&board, places), SYNICBOARD_BAD_PAGE);
+    places[3] = own[0] + 16;
+    CHECK_NUMBER(synicboard_make_live_in(&board, places), SYNICBOARD_BAD_PAGE);
+    places[3] = places[0];
+    CHECK_NUMBER(synicboard_make_live_in(&board, places), SYNICBOARD_BAD_PAGE);
+    CHECK(!synicboard_is_live(&board));
+    set_places();
+    size_t number = 1;
+    for (uint8_t answer = SYNICBOARD_NO_MEMORY; answer != SYNICBOARD_OK; number++) {
+        refuse(number);
+        answer = synicboard_make_live_in(&board, places);
+        refuse(0);
+        CHECK(answer == SYNICBOARD_OK || answer == SYNICBOARD_NO_MEMORY);
+        CHECK(synicboard_is_live(&board) == (answer == SYNICBOARD_OK));
+    }
+    CHECK(number > 12);
+    CHECK_NUMBER(synicboard_make_live_in(&board, places), SYNICBOARD_IS_LIVE);
+    synicboard_close(&board);
+}
+
 int main(void)
 {
     static const struct test tests[] = {
@@ -426,7 +498,7 @@ int main(void)
         { "the greatest board", test_greatest_board },
         { "the greatest tick", test_greatest_tick },
         { "other calls", test_other_calls },
-        { "a board without live pages", test_plain_board },
+        { "calls", test_calls },
         { "a message", test_message },
         { "an emptied slot", test_emptied_slot },
         { "a whole slot", test_whole_slot },
@@ -436,6 +508,9 @@ int main(void)
         { "a timer", test_timer },
         { "a hostile guest", test_hostile_guest },
         { "an image", test_image },
+        { "own pages", test_own_pages },
+        { "own pages of the greatest board", test_own_pages_of_the_greatest_board },
+        { "wrong pages", test_wrong_pages },
     };
     return run_tests(tests, sizeof tests / sizeof tests[0]);
 }

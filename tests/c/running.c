@@ -89,17 +89,18 @@ static void find_flag(const synicboard_event *event, const synicboard_reply *rep
 static synicboard_reply act(synicboard_event event)
 {
     synicboard *board = synicboard_hold(&shared);
-    synicboard_live_reply live = synicboard_act_live(board, &event);
-    if (live.eoms != 0 || live.reply.kind == SYNICBOARD_NOT_PERFORMED) {
-        fprintf(stderr, "running: event %u: EOMs %lx, fault %u\n", event.kind, live.eoms, live.reply.fault);
+    synicboard_reply reply = synicboard_perform(board, &event);
+    uint64_t eoms = synicboard_eoms(board);
+    if (eoms != 0 || reply.kind == SYNICBOARD_NOT_PERFORMED) {
+        fprintf(stderr, "running: event %u: EOMs %lx, fault %u\n", event.kind, eoms, reply.fault);
         exit(1);
     }
     handle_notices(board);
-    find_flag(&event, &live.reply);
+    find_flag(&event, &reply);
     if (trace != NULL)
-        write_entry(&event, &live.reply);
+        write_entry(&event, &reply);
     synicboard_release(&shared);
-    return live.reply;
+    return reply;
 }
 
 static void write_register(uint32_t msr, uint64_t value)

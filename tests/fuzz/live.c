@@ -67,10 +67,10 @@ static void compare_notices(void)
 static void perform(const synicboard_event *event)
 {
     synicboard_reply reply = synicboard_perform(&trapped, event);
-    synicboard_live_reply other = synicboard_act_live(&live, event);
-    REQUIRE(other.eoms == 0);
-    REQUIRE(reply.kind == other.reply.kind && reply.fault == other.reply.fault && reply.refusal == other.reply.refusal && reply.vector == other.reply.vector
-            && reply.value == other.reply.value && reply.ticket == other.reply.ticket);
+    synicboard_reply other = synicboard_perform(&live, event);
+    REQUIRE(synicboard_eoms(&live) == 0);
+    REQUIRE(reply.kind == other.kind && reply.fault == other.fault && reply.refusal == other.refusal && reply.vector == other.vector
+            && reply.value == other.value && reply.ticket == other.ticket);
     compare_notices();
 }
 

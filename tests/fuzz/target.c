@@ -63,7 +63,7 @@ static void read_bytes(struct input *input, synicboard_event *event)
 static uint32_t read_register(struct input *input)
 {
     uint8_t low = read_byte(input);
-    return low < 255 ? 0x40000000 + low : (uint32_t)read_number(input);
+    return low < 255 ? 0x40000000u + low : (uint32_t)read_number(input);
 }
 
 static void read_field(struct input *input, char field, uint64_t moment, synicboard_event *event)

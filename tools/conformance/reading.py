@@ -4,7 +4,7 @@ import collections
 import os
 import re
 
-from conformance import answers, report, running, suite
+from conformance import report, running, suite
 
 FOLDER = os.path.join(suite.ROOT, "conformance", "guest")
 STORED = os.path.join(FOLDER, "suite.txt")

@@ -6,7 +6,7 @@ import library
 from agda import wrapped
 from inference import is_type
 from sharing import children, replaced, shared
-from syntax import OPERATORS, Refused
+from syntax import OPERATORS
 from unification import PROPOSITION, prune, result_of, variables
 
 # Words of Coq, and names in its library that a variable would hide.

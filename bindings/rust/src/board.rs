@@ -1,9 +1,9 @@
 //! A board: its events and queries.
 
-use crate::notice::{Room, ROOM};
+use crate::notice::{Room, LIVE_ROOM, ROOM};
 use crate::{
-    beyond_the_header, same_library, sys, Changes, Event, Line, Moment, Notices, Owner, Owners, PortShape, Reply, Ticket,
-    TimerId, Vector, View, Vp, WideChanges, WideView,
+    beyond_the_header, same_library, sys, Answer, AnswerRoom, Changes, Event, Line, Moment, Notices, Owner, Owners, PortShape, Reply, Sint,
+    Ticket, TimerId, Vector, View, Vp, WideChanges, WideView,
 };
 use core::cell::UnsafeCell;
 use core::error::Error;
@@ -527,6 +527,57 @@ impl Board {
 
 /// Queries, which change nothing.
 impl Board {
+    /// Moves the clock to `now`, if that is later than the present time, and then performs the event, if there is one.
+    /// The buffer has the notices of both, in order. So a host passes its clock with each exit of the guest, and a
+    /// register write never comes before the expiries that are due by then.
+    ///
+    /// Bit p of `assisted` says that the host has set "No EOI required" in the assist page of processor p and has not
+    /// found it clear; 0 if the host has no assist pages.
+    ///
+    /// ```
+    /// use synicboard::{AnswerRoom, Board, Event, Reply};
+    ///
+    /// let (mut board, mut room) = (Board::open(1, 1, 0).unwrap(), AnswerRoom::new().unwrap());
+    /// for (register, value) in [(0x4000_0080, 1), (0x4000_00b1, 10), (0x4000_00b0, 0x1401)] {
+    ///     let answer = board.step(5, Some(&Event::Write { vp: 0, register, value }), 0, &mut room);
+    ///     assert_eq!(answer.reply, Some(Reply::Done));
+    /// }
+    /// assert_eq!(board.alarm(), Some(10));
+    /// let answer = board.step(10, None, 0, &mut room);
+    /// assert_eq!((room.notices().len(), answer.next, answer.alarm), (2, 1, None));
+    /// ```
+    pub fn step(&mut self, now: Moment, event: Option<&Event>, assisted: u64, room: &mut AnswerRoom) -> Answer {
+        let plain = event.map(|event| event.to_plain());
+        let event = plain.as_ref().map_or(ptr::null(), ptr::from_ref);
+        let answer = ask!(self, synicboard_step, now, event, assisted, room.start(), LIVE_ROOM);
+        room.set(answer.notices);
+        Answer::of(&answer, plain.is_some())
+    }
+
+    /// The processors that have a next vector: bit p for processor p.
+    pub fn next_bits(&self) -> u64 {
+        ask!(self, synicboard_next_bits)
+    }
+
+    /// A port, if it is open: its processor, its source and its shape.
+    pub fn port(&self, port: u8) -> Option<(Vp, Sint, PortShape)> {
+        let found = ask!(self, synicboard_port, port);
+        let shape = match found.kind {
+            sys::SYNICBOARD_PORT_MESSAGES => PortShape::Messages { buffers: found.buffers },
+            sys::SYNICBOARD_PORT_FLAGS => PortShape::Flags { base: found.base, count: found.count },
+            _ => return None,
+        };
+        Some((Vp::new(found.vp)?, Sint::new(found.sint)?, shape))
+    }
+
+    /// Asserts a source of a processor, as a message or a signal to it would: requests its vector, unless SINTx is
+    /// masked or polling.
+    ///
+    /// `Done`, or refused: `NoSuchProcessor`. `NoEvent` if `sint` is above 15.
+    pub fn assert_source(&mut self, vp: u8, sint: u8) -> Reply {
+        Reply::of(ask!(self, synicboard_assert_source, vp, sint))
+    }
+
     /// The notices of the last event, in order. There are none if it was refused or raised #GP, or
     /// before the first event. [`Reply::NoEvent`] is no event: then these are still the notices of
     /// the event before.
@@ -642,12 +693,12 @@ impl Board {
     /// is unchanged.
     ///
     /// ```
-    /// let board = synicboard::Board::open(1, 1, 5).unwrap();
+    /// let mut board = synicboard::Board::open(1, 1, 5).unwrap();
     /// let mut room = [0; 80];
     /// let length = board.save(&mut room).unwrap();
     /// assert_eq!(room[..length], *b"image 1\nboard 1 1 5\nlapic 0 0 0 0 0 0 0 0 0 0 running\nend\n");
     /// ```
-    pub fn save(&self, room: &mut [u8]) -> Option<usize> {
+    pub fn save(&mut self, room: &mut [u8]) -> Option<usize> {
         let end = ask!(self, synicboard_save, room.as_mut_ptr(), room.len());
         match end.kind {
             sys::SYNICBOARD_OK => Some(end.length),

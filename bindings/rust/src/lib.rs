@@ -24,6 +24,7 @@
 
 extern crate alloc;
 
+mod answer;
 mod board;
 mod event;
 mod line;
@@ -38,6 +39,7 @@ mod text;
 mod tsc;
 mod view;
 
+pub use answer::{Answer, AnswerRoom};
 pub use board::{Board, Forwarded, LocalApic, OpenFault, RestoreFault, Timer, PAGE_BYTES};
 pub use event::{Bytes, Bytes8, Event, PayloadBytes, PortShape};
 pub use line::{Line, Raised, SplitFault};

@@ -1,8 +1,8 @@
 //! A board whose message and event flags pages a running guest loads and stores.
 
 use crate::board::ask;
-use crate::notice::LiveRoom;
-use crate::{beyond_the_header, sys, Board, Event, Forwarded, Line, Notices, Reply, Vp};
+use crate::notice::{LiveRoom, LIVE_ROOM};
+use crate::{beyond_the_header, sys, Answer, AnswerRoom, Board, Event, Forwarded, Line, Moment, Notices, Reply, Vp};
 use core::fmt;
 use core::ptr;
 
@@ -81,8 +81,8 @@ impl LiveBoard {
     /// Performs an event. A load or a store at a page where the guest sees a live page is refused with
     /// [`Elsewhere`](crate::Refusal::Elsewhere): the caller performs it in the live page.
     pub fn perform(&mut self, event: &Event) -> LiveReply {
-        let live = ask!(self.board, synicboard_act_live, &event.to_plain());
-        LiveReply { reply: Reply::of(live.reply), eoms: live.eoms }
+        let reply = self.board.perform(event);
+        LiveReply { reply, eoms: ask!(self.board, synicboard_eoms) }
     }
 
     /// [`Board::absorb_line`].
@@ -102,15 +102,26 @@ impl LiveBoard {
     }
 
     /// Looks at all words of both live pages of a processor that the guest sees, so that the board's own pages have
-    /// what the guest has stored. Before [`Board::save`], for each processor, while the guest does not run.
+    /// what the guest has stored. [`save`](LiveBoard::save) does the same of each processor.
     pub fn observe_all(&mut self, vp: u8) -> Reply {
         Reply::of(ask!(self.board, synicboard_observe_all, vp))
+    }
+
+    /// [`Board::step`] on a board with live pages.
+    pub fn step(&mut self, now: Moment, event: Option<&Event>, assisted: u64, room: &mut AnswerRoom) -> Answer {
+        self.board.step(now, event, assisted, room)
+    }
+
+    /// [`Board::save`]. It looks at all words of the live pages that the guest sees first, so the image has what the
+    /// guest stored before; the notices are those of these stores. Stop the guest first.
+    pub fn save(&mut self, room: &mut [u8]) -> Option<usize> {
+        self.board.save(room)
     }
 
     /// The notices of the last event or look: of the guest's stores that were found before the event, of the
     /// event, of the stores that were found after it, and of the EOMs.
     pub fn notices(&self) -> Notices<'_> {
-        let count = ask!(self.board, synicboard_notices, self.room.start(), sys::SYNICBOARD_MOST_LIVE_NOTICES);
+        let count = ask!(self.board, synicboard_notices, self.room.start(), LIVE_ROOM);
         // SAFETY: the library wrote `count` notices, or as many as fit into the buffer, which is this
         // board's, and a live board is not `Sync`.
         unsafe { self.room.first(count) }

@@ -151,7 +151,10 @@ impl Room {
     }
 }
 
-/// A buffer for the notices of an event on a board with live pages, of which there may be more.
+/// The capacity of a buffer for the notices of two events on a board with live pages.
+pub(crate) const LIVE_ROOM: usize = 2 * sys::SYNICBOARD_MOST_LIVE_NOTICES;
+
+/// A buffer for the notices of events on a board with live pages, of which there may be more.
 pub(crate) struct LiveRoom {
     notices: UnsafeCell<Vec<sys::synicboard_notice>>,
 }
@@ -160,11 +163,11 @@ impl LiveRoom {
     /// A buffer, unless its allocation fails.
     pub(crate) fn new() -> Option<LiveRoom> {
         let mut notices = Vec::new();
-        notices.try_reserve_exact(sys::SYNICBOARD_MOST_LIVE_NOTICES).ok()?;
+        notices.try_reserve_exact(LIVE_ROOM).ok()?;
         Some(LiveRoom { notices: UnsafeCell::new(notices) })
     }
 
-    /// Its start. It has capacity for the notices of any event.
+    /// Its start. It has capacity for [`LIVE_ROOM`].
     pub(crate) fn start(&self) -> *mut sys::synicboard_notice {
         // SAFETY: no reference to the list is kept, and it is never resized.
         unsafe { (*self.notices.get()).as_mut_ptr() }
@@ -176,7 +179,7 @@ impl LiveRoom {
     ///
     /// As for [`Room::first`].
     pub(crate) unsafe fn first(&self, count: usize) -> Notices<'_> {
-        let left = 0..count.min(sys::SYNICBOARD_MOST_LIVE_NOTICES);
+        let left = 0..count.min(LIVE_ROOM);
         Notices { start: self.start(), left, board: PhantomData }
     }
 }

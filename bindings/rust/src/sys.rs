@@ -60,6 +60,15 @@ pub const SYNICBOARD_NOT_RECORDED: u8 = 13;
 pub const SYNICBOARD_IS_LIVE: u8 = 14;
 /// Outcome: the board has no live pages.
 pub const SYNICBOARD_NOT_LIVE: u8 = 15;
+/// Outcome: a page is null, not at a multiple of 4096, or there twice.
+pub const SYNICBOARD_BAD_PAGE: u8 = 16;
+
+/// A port is closed.
+pub const SYNICBOARD_PORT_CLOSED: u8 = 0;
+/// A port is for messages.
+pub const SYNICBOARD_PORT_MESSAGES: u8 = 1;
+/// A port is for event flags.
+pub const SYNICBOARD_PORT_FLAGS: u8 = 2;
 
 /// Reply: no event was performed, for the reason in `fault`; nothing changed.
 pub const SYNICBOARD_NOT_PERFORMED: u8 = 0;
@@ -297,6 +306,36 @@ pub struct synicboard_batch {
     pub emitted: usize,
 }
 
+/// When a host must tick next, if `is_set`.
+#[repr(C)]
+#[derive(Clone, Copy, PartialEq, Eq, Debug)]
+pub struct synicboard_next_tick {
+    /// Whether any later tick makes a timer expire.
+    pub is_set: bool,
+    /// The time of the first such tick, in units of 100 ns.
+    pub moment: u64,
+}
+
+/// What became of an event, and what the host has to do next.
+#[repr(C)]
+#[derive(Clone, Copy, PartialEq, Eq, Debug)]
+pub struct synicboard_answer {
+    /// The reply to the event.
+    pub reply: synicboard_reply,
+    /// How many notices the clock and the event emitted.
+    pub notices: usize,
+    /// The processors of which the board performed an EOM after it moved the clock: bit p for processor p.
+    pub clock_eoms: u64,
+    /// The same after the event.
+    pub eoms: u64,
+    /// The processors that have a next vector.
+    pub next: u64,
+    /// Those in `assisted` of which an EOI is required.
+    pub end_assist: u64,
+    /// When the host must tick next.
+    pub alarm: synicboard_next_tick,
+}
+
 /// A handle of a line. It may be moved but not copied; its fields are private to the library.
 #[repr(C)]
 #[derive(Debug)]
@@ -325,6 +364,24 @@ pub const SYNICBOARD_OWNER_GUEST: u8 = 1;
 pub const SYNICBOARD_OWNER_MESSAGES: u8 = 2;
 /// Owner: the event flags page of `vp`.
 pub const SYNICBOARD_OWNER_FLAGS: u8 = 3;
+
+/// A port; all 0 if it is closed.
+#[repr(C)]
+#[derive(Clone, Copy, PartialEq, Eq, Debug)]
+pub struct synicboard_port_state {
+    /// `SYNICBOARD_PORT_..`.
+    pub kind: u8,
+    /// The processor.
+    pub vp: u8,
+    /// The source.
+    pub sint: u8,
+    /// The buffers of a port for messages.
+    pub buffers: u8,
+    /// The first event flag.
+    pub base: u16,
+    /// How many event flags there are.
+    pub count: u16,
+}
 
 /// A local APIC. Bit i of word k is vector 64 * k + i.
 #[repr(C)]
@@ -404,16 +461,6 @@ pub struct synicboard_due {
     pub high: u64,
 }
 
-/// When a host must tick next, if `is_set`.
-#[repr(C)]
-#[derive(Clone, Copy, PartialEq, Eq, Debug)]
-pub struct synicboard_next_tick {
-    /// Whether any later tick makes a timer expire.
-    pub is_set: bool,
-    /// The time of the first such tick, in units of 100 ns.
-    pub moment: u64,
-}
-
 /// The next vector of each processor, 0 if it has none, and the earliest deadline.
 #[repr(C)]
 #[derive(Clone, Copy, PartialEq, Eq, Debug)]
@@ -455,18 +502,8 @@ pub struct synicboard_owners {
     pub page: [synicboard_page_owner; 64],
 }
 
-/// No event, and no `synicboard_observe`, emits more notices on a board with live pages.
+/// No event, and no `synicboard_observe` or `synicboard_save`, emits more notices on a board with live pages.
 pub const SYNICBOARD_MOST_LIVE_NOTICES: usize = 22720;
-
-/// The reply to an event on a board that may have live pages.
-#[repr(C)]
-#[derive(Clone, Copy, PartialEq, Eq, Debug)]
-pub struct synicboard_live_reply {
-    /// The reply.
-    pub reply: synicboard_reply,
-    /// The processors of which the board performed an EOM: bit p for processor p.
-    pub eoms: u64,
-}
 
 /// A reference TSC page; all 0 if there is none.
 #[repr(C)]
@@ -569,6 +606,8 @@ extern "C" {
     pub fn synicboard_close_port(board: *mut synicboard, port: u8) -> synicboard_reply;
     /// A guest writes a register.
     pub fn synicboard_write(board: *mut synicboard, vp: u8, msr: u32, value: u64) -> synicboard_reply;
+    /// Whether a register is a board's.
+    pub fn synicboard_has_register(msr: u32) -> bool;
     /// A guest reads a register.
     pub fn synicboard_read(board: *mut synicboard, vp: u8, msr: u32) -> synicboard_reply;
     /// Posts a message of up to 240 bytes.
@@ -583,6 +622,8 @@ extern "C" {
     pub fn synicboard_signal(board: *mut synicboard, port: u8, flag: u16) -> synicboard_reply;
     /// A device requests a vector, from 16 on.
     pub fn synicboard_assert(board: *mut synicboard, vp: u8, vector: u8) -> synicboard_reply;
+    /// Asserts a source of a processor, as a message or a signal to it would.
+    pub fn synicboard_assert_source(board: *mut synicboard, vp: u8, sint: u8) -> synicboard_reply;
     /// Requests posted vectors: bit i of `bits` is vector 64 * part + i.
     pub fn synicboard_absorb(board: *mut synicboard, vp: u8, part: u8, bits: u64) -> synicboard_reply;
     /// A guest stores up to 8 bytes.
@@ -623,6 +664,17 @@ extern "C" {
         notice_room: usize,
     ) -> synicboard_batch;
 
+    /// Moves the clock, if the time is later, performs an event, if there is one, and copies the notices of both.
+    pub fn synicboard_step(
+        board: *mut synicboard,
+        now: u64,
+        event: *const synicboard_event,
+        assisted: u64,
+        notices: *mut synicboard_notice,
+        room: usize,
+    ) -> synicboard_answer;
+    /// The processors that have a next vector: bit p for processor p.
+    pub fn synicboard_next_bits(board: *const synicboard) -> u64;
     /// Opens words for that many processors, with no vector raised, and their first line.
     pub fn synicboard_open_line(line: *mut synicboard_line, processors: u8) -> u8;
     /// Opens `other` as a line of the same words.
@@ -650,6 +702,8 @@ extern "C" {
     pub fn synicboard_moment(board: *const synicboard) -> u64;
     /// The ticket that the next accepted message gets.
     pub fn synicboard_next_ticket(board: *const synicboard) -> u64;
+    /// A port; all 0 if it is closed.
+    pub fn synicboard_port(board: *const synicboard, port: u8) -> synicboard_port_state;
     /// The local APIC of a processor; all 0 if there is no such processor.
     pub fn synicboard_lapic(board: *const synicboard, vp: u8) -> synicboard_local_apic;
     /// Whether no EOI is required of a processor: a vector is in service, and none is requested.
@@ -699,10 +753,12 @@ extern "C" {
 
     /// Gives the board live pages, and stores their addresses, two for each processor.
     pub fn synicboard_make_live(board: *mut synicboard, pages: *mut *mut u8) -> u8;
+    /// Gives the board live pages in memory of the caller's, two for each processor.
+    pub fn synicboard_make_live_in(board: *mut synicboard, pages: *const *mut u8) -> u8;
     /// Whether the board has live pages.
     pub fn synicboard_is_live(board: *const synicboard) -> bool;
-    /// Performs an event on a board with live pages or without.
-    pub fn synicboard_act_live(board: *mut synicboard, event: *const synicboard_event) -> synicboard_live_reply;
+    /// The processors of which the board performed an EOM after the last event: bit p for processor p.
+    pub fn synicboard_eoms(board: *const synicboard) -> u64;
     /// Looks at the message slots of a processor.
     pub fn synicboard_observe(board: *mut synicboard, vp: u8) -> synicboard_reply;
     /// Looks at all words of both live pages of a processor.
@@ -714,6 +770,8 @@ extern "C" {
     pub fn synicboard_tsc_page_moved(page: synicboard_tsc_page, tsc: u64, time: u64) -> synicboard_tsc_page;
     /// The reference time of a page when the TSC is `tsc`.
     pub fn synicboard_tsc_time(page: synicboard_tsc_page, tsc: u64) -> u64;
+    /// The first TSC from which on the time is at least `time`.
+    pub fn synicboard_tsc_until(page: synicboard_tsc_page, time: u64) -> u64;
 
     /// Performs a script on a board of its own, and writes its output to a buffer, as much as fits.
     pub fn synicboard_replay(
@@ -723,7 +781,7 @@ extern "C" {
         length: usize,
     ) -> synicboard_end;
     /// Writes the image of a board to a buffer, as much as fits.
-    pub fn synicboard_save(board: *const synicboard, room: *mut u8, length: usize) -> synicboard_end;
+    pub fn synicboard_save(board: *mut synicboard, room: *mut u8, length: usize) -> synicboard_end;
     /// Restores a board from an image, in a closed handle.
     pub fn synicboard_restore(
         board: *mut synicboard,

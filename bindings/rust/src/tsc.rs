@@ -1,7 +1,7 @@
 //! The reference TSC page.
 
 use crate::sys::{
-    synicboard_tsc_page, synicboard_tsc_page_at, synicboard_tsc_page_moved, synicboard_tsc_time,
+    synicboard_tsc_page, synicboard_tsc_page_at, synicboard_tsc_page_moved, synicboard_tsc_time, synicboard_tsc_until,
 };
 use crate::terms::Moment;
 
@@ -30,6 +30,13 @@ impl TscPage {
     pub fn time_at(self, tsc: u64) -> Moment {
         // SAFETY: as in `new`.
         unsafe { synicboard_tsc_time(self.0, tsc) }
+    }
+
+    /// The first TSC from which on the time is at least `time`, as long as it does not wrap: what a host sets a timer of
+    /// its TSC to for an alarm. 0 if that was before the TSC was 0, and the greatest number if it never is.
+    pub fn until(self, time: Moment) -> u64 {
+        // SAFETY: as in `new`.
+        unsafe { synicboard_tsc_until(self.0, time) }
     }
 
     /// TscScale: the units of each tick, times 2^64.

@@ -64,7 +64,9 @@ fn translated(declaration: &str) -> String {
 
 /// Each `NAME number` of a header, sorted.
 fn constants_of_header(text: &str) -> Vec<String> {
-    let named = between(text, "enum {", "}").join(",").replace(" = ", " ");
+    let lists = between(text, "\nenum ", "}");
+    let named: Vec<_> = lists.iter().filter_map(|list| Some(list.split_once('{')?.1)).collect();
+    let named = named.join(",").replace(" = ", " ");
     let defined = between(text, "#define ", "\n");
     let is_number = |item: &&String| item.ends_with(|last: char| last.is_ascii_digit());
     let defined = defined.iter().filter(is_number).map(String::as_str);

@@ -295,7 +295,7 @@ fn an_image_has_what_the_guest_has_stored() {
     assert_eq!(board.board().message_page(0), Some(&pages.0));
     assert_eq!(board.board().flag_page(0), Some(&pages.1));
     let mut room = vec![0; 1 << 17];
-    let length = board.board().save(&mut room).unwrap();
+    let length = board.save(&mut room).unwrap();
     drop(board);
     let restored = Board::restore(&room[..length]).unwrap().into_live().unwrap();
     assert_eq!((bytes(restored.message_page(VP)), bytes(restored.flag_page(VP))), pages);

@@ -153,16 +153,21 @@ static struct peer_reply performed(const synicboard_event *e)
     }
 }
 
-synicboard_live_reply synicboard_act_live(synicboard *held, const synicboard_event *event)
+synicboard_reply synicboard_perform(synicboard *held, const synicboard_event *event)
 {
     uint64_t before = board.now;
     notice_count = 0;
     has_expired = false;
-    synicboard_live_reply live = { .reply = translated(performed(event)) };
+    synicboard_reply reply = translated(performed(event));
     bool is_later = board.now > before;
     is_tried = event->kind == SYNICBOARD_TICK && !has_expired && (is_later || is_tried);
     show_pages();
-    return live;
+    return reply;
+}
+
+uint64_t synicboard_eoms(const synicboard *held)
+{
+    return 0;
 }
 
 synicboard_reply synicboard_observe_all(synicboard *held, uint8_t vp)

@@ -133,7 +133,7 @@ uint8_t synicboard_raise(synicboard_line *line, uint8_t vp, uint8_t vector)
 synicboard_reply synicboard_absorb_line(synicboard *held, synicboard_line *line, uint8_t vp, uint8_t part)
 {
     synicboard_event event = { .kind = SYNICBOARD_ABSORB, .vp = vp, .part = part, .value = atomic_exchange(&words[vp][part], 0) };
-    synicboard_reply reply = synicboard_act_live(held, &event).reply;
+    synicboard_reply reply = synicboard_perform(held, &event);
     reply.value = event.value;
     return reply;
 }

@@ -6,7 +6,7 @@ use Rattle.synic_board.specs.State.{processors}
 use Rattle.c_handles.specs.declared.any_board.AnyBoard.{AnyBoard}
 use Rattle.c_handles.specs.declared.forwarding.Forwarded.{Forwarded}
 use Rattle.c_handles.specs.Forwarding.{IsForwarded}
-use Rattle.c_handles.specs.Kinds.{state_in, notices_in, pages_in}
+use Rattle.c_handles.specs.Kinds.{state_in, notices_in, eoms_in, pages_in}
 use Rattle.c_terms.specs.declared.reply.CReply.{CReply}
 use Rattle.c_terms.specs.declared.reply.Fault.TheVariants.{Closed}
 use Rattle.c_terms.specs.Replies.{reply_to_c, fault_to_c}
@@ -27,6 +27,7 @@ pub record IsForwardedBy (vp : ℕ) (board after : AnyBoard) (forwarded : CForwa
   pub encoded : forwarded ≡ forwarded_to_c what
   pub replied : reply ≡ reply_to_c Done 0
   pub notices : notices_in after ≡ []
+  pub eoms : eoms_in after ≡ 0
   pub pages : pages_in after ≡ pages_in board
 
 -- a call forwards vectors: without a board or without the processor nothing changes, and nothing is forwarded

@@ -11,4 +11,6 @@ pub mod Live
 pub mod Recorded
 pub mod Outcomes
 pub mod Tsc
+pub mod Stepping
+pub mod Sources
 pub mod inside

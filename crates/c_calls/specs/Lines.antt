@@ -2,7 +2,7 @@
 use Rattle.std.specs.Prelude.{◌≡◌, ℕ, nat_lt, nat_eq, ◌&&◌, not, Bool, false, Option, Some, None, List, []}
 use Rattle.board_terms.specs.declared.notices.Notice.{Notice}
 use Rattle.c_handles.specs.declared.any_board.AnyBoard.{AnyBoard}
-use Rattle.c_handles.specs.Kinds.{state_in, notices_in, pages_in}
+use Rattle.c_handles.specs.Kinds.{state_in, notices_in, eoms_in, pages_in}
 use Rattle.c_handles.specs.Lines.{LineModel, line_model, new_line, with_step, with_one_split_off, IsSwept}
 use Rattle.c_terms.specs.declared.reply.CReply.{CReply}
 use Rattle.c_terms.specs.declared.reply.Fault.TheVariants.{Closed, NoLine}
@@ -47,10 +47,11 @@ HasSwept board line vp part bits None = ⊥
 abbrev pub with_bits : ℕ → State × CReply × List Notice → State × CReply × List Notice
 with_bits bits (s, reply, notices) = (s, record reply { value = bits }, notices)
 
--- a board of either kind, and its notices, are those of an outcome, and no live page was accessed
+-- a board of either kind, and its notices, are those of an outcome, no live page was accessed, and no EOM performed
 abbrev pub IsApart : State × CReply × List Notice → AnyBoard → Option AnyBoard → CReply → Type 0
 IsApart outcome before (Some after) reply =
     ((state_in after, reply, notices_in after) ≡ outcome) × (pages_in after ≡ pages_in before)
+    × (eoms_in after ≡ 0)
 IsApart outcome before None reply = ⊥
 
 -- the board absorbed what the line swept: without a board or without a line nothing changes

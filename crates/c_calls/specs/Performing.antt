@@ -2,12 +2,13 @@
 use Rattle.std.specs.Prelude.{◌≡◌, ℕ, nat_lt, Option, Some, None, List, length, if◌then◌else◌}
 use Rattle.board_terms.specs.declared.notices.Notice.{Notice}
 use Rattle.c_handles.specs.declared.any_board.AnyBoard.{AnyBoard}
-use Rattle.c_handles.specs.declared.any_board.AnyBoard.TheVariants.{Plain, Live}
+use Rattle.c_handles.specs.Kinds.{notices_in, PerformsOn}
 use Rattle.c_terms.specs.declared.reply.CReply.{CReply}
-use Rattle.c_terms.specs.declared.reply.Fault.TheVariants.{Closed, IsLive, NoEvent}
+use Rattle.c_terms.specs.declared.reply.Fault.TheVariants.{Closed, NoEvent}
 use Rattle.c_terms.specs.Replies.{reply_to_c, fault_to_c}
 use Rattle.synic_board.specs.declared.event.Event.{Event}
 use Rattle.synic_board.specs.declared.event.Event.TheVariants.{Post, Store, Assert, Send}
+use Rattle.synic_board.specs.declared.event.Reply.{Reply}
 use Rattle.synic_board.specs.State.{State}
 use Rattle.synic_board.specs.Effects.{Outcome}
 use Rattle.synic_board.specs.Step.{step}
@@ -16,20 +17,22 @@ use Rattle.synic_board.specs.Step.{step}
 abbrev pub outcome_to_c : Outcome → State × CReply × List Notice
 outcome_to_c (s, reply, notices) = (s, reply_to_c reply (length notices), notices)
 
--- the board, which has no live pages, and the notices are those of an outcome
-abbrev pub IsOutcome : State × CReply × List Notice → Option AnyBoard → CReply → Type 0
-IsOutcome outcome (Some (Plain board)) reply = (board.board.state, reply, board.notices) ≡ outcome
-IsOutcome outcome (Some (Live board)) reply = ⊥
-IsOutcome outcome None reply = ⊥
+-- a board performs an event, and the reply is encoded with the number of its notices
+abbrev pub IsPerformedOn : AnyBoard → Event → AnyBoard → CReply → Type 0
+IsPerformedOn board event after reply =
+    (answer : Reply) × PerformsOn board event after answer × (reply ≡ reply_to_c answer (length (notices_in after)))
 
--- a call performs an event on the board of a handle: without a board, with one that has live pages, or without an
--- event, nothing changes
+-- a board performs an event, if there is one
+abbrev pub PerformsSome : Option Event → AnyBoard → AnyBoard → Reply → Type 0
+PerformsSome None board after answer = ⊥
+PerformsSome (Some event) board after answer = PerformsOn board event after answer
+
+-- a call performs an event on the board of a handle: without a board, or without an event, nothing changes
 abbrev pub IsPerformed : Option Event → Option AnyBoard → Option AnyBoard → CReply → Type 0
 IsPerformed event None after reply = (after ≡ None) × (reply ≡ fault_to_c Closed)
-IsPerformed event (Some (Live board)) after reply = (after ≡ Some (Live board)) × (reply ≡ fault_to_c IsLive)
-IsPerformed None (Some (Plain board)) after reply = (after ≡ Some (Plain board)) × (reply ≡ fault_to_c NoEvent)
-IsPerformed (Some event) (Some (Plain board)) after reply =
-    IsOutcome (outcome_to_c (step board.board.state event)) after reply
+IsPerformed None (Some board) after reply = (after ≡ Some board) × (reply ≡ fault_to_c NoEvent)
+IsPerformed (Some event) (Some board) (Some after) reply = IsPerformedOn board event after reply
+IsPerformed (Some event) (Some board) None reply = ⊥
 
 -- a message has at most 240 bytes, a store at most 8, and a vector is at least 16; else there is no event
 abbrev pub post_from_c : ℕ → ℕ → List ℕ → Option Event

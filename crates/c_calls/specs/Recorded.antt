@@ -14,7 +14,7 @@ use Rattle.c_terms.specs.Notices.{notice_to_c}
 use Rattle.c_terms.specs.Replies.{fault_to_c}
 use Rattle.c_terms.specs.Rooms.{Fronts}
 use Rattle.c_calls.specs.Lines.{with_bits}
-use Rattle.c_calls.specs.Performing.{outcome_to_c, IsOutcome}
+use Rattle.c_calls.specs.Performing.{outcome_to_c}
 use Rattle.c_calls.specs.declared.recorded.CSettled.{CSettled}
 use Rattle.synic_board.specs.declared.event.Event.{Event}
 use Rattle.synic_board.specs.declared.event.Event.TheVariants.{Absorb}
@@ -34,7 +34,7 @@ buffer before after = record { before = before; after = after }
 -- are at the front of the buffer
 pub record IsEntered (actor : ℕ) (event : Event) (outcome : State × CReply × List Notice) (old new : Recorded)
     (answer : CReply) (room : Buffer) : Type 0 where
-  pub performed : IsOutcome outcome (Some (Plain new.board)) answer
+  pub performed : (new.board.board.state, answer, new.board.notices) ≡ outcome
   pub entered : new.history ≡ with_entry old.history actor event (step old.board.board.state event).1
   pub copied : Fronts (map notice_to_c new.board.notices) room.before room.after
 

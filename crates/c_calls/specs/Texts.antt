@@ -5,7 +5,7 @@ use Rattle.text_script.specs.Output.{fault_of, text}
 use Rattle.synic_board.specs.State.{State}
 use Rattle.text_image.specs.Image.{image}
 use Rattle.c_handles.specs.declared.any_board.AnyBoard.{AnyBoard}
-use Rattle.c_handles.specs.Kinds.{state_in}
+use Rattle.c_handles.specs.Kinds.{state_in, IsRefreshedOn}
 use Rattle.c_terms.specs.Rooms.{Fronts}
 use Rattle.c_calls.specs.declared.texts.CEnd.{CEnd}
 
@@ -55,8 +55,11 @@ pub record IsUnsaved (reason : ℕ) (room_before room_after : List ℕ) (end : C
   pub length : end.length ≡ 0
   pub room : room_after ≡ room_before
 
--- the image of an open board was written, or nothing, for lack of memory; nothing of a closed one
-abbrev pub IsSaved : Option AnyBoard → List ℕ → List ℕ → CEnd → Type 0
-IsSaved None room_before room_after end = IsUnsaved 4 room_before room_after end
-IsSaved (Some board) room_before room_after end =
-    IsWrittenImage (state_in board) room_before room_after end ⊎ IsUnsaved 2 room_before room_after end
+-- the own pages of a board with live pages were brought up to date, and the image of the board was written, or
+-- nothing, for lack of memory; nothing of a closed one
+abbrev pub IsSaved : Option AnyBoard → Option AnyBoard → List ℕ → List ℕ → CEnd → Type 0
+IsSaved None after room_before room_after end = (after ≡ None) × IsUnsaved 4 room_before room_after end
+IsSaved (Some board) (Some after) room_before room_after end =
+    IsRefreshedOn board after
+    × (IsWrittenImage (state_in after) room_before room_after end ⊎ IsUnsaved 2 room_before room_after end)
+IsSaved (Some board) None room_before room_after end = ⊥

@@ -1,17 +1,18 @@
 // One call for each kind of event.
-ghost use Rattle.std.specs.Prelude.{◌≡◌, ◌≤◌, Some, length};
+ghost use Rattle.std.specs.Prelude.{◌≡◌, ◌≤◌, Some, None, IfSome, IfNone, length};
 ghost use Rattle.c_terms.specs.Events.{event_from_c};
 ghost use Rattle.c_calls.specs.Looks.{earliest_of};
-ghost use Rattle.c_calls.specs.Performing.{IsPerformed, post_from_c, store_from_c, assert_from_c, send_from_c};
+ghost use Rattle.c_calls.specs.Performing.{IsPerformed, PerformsSome, post_from_c, store_from_c, assert_from_c, send_from_c};
 ghost use Rattle.synic_board.specs.declared.event.Event.TheVariants as event;
 ghost use Rattle.board_terms.specs.declared.messages.PortShape.TheVariants as shape;
+ghost use Rattle.c_handles.specs.declared.any_board.AnyBoard.TheVariants.{Live};
 
 use crate::looks::{CDeadline, earliest_on};
 use crate::perform_on::{no_event, perform_on};
 use board_terms::{PortShape, Vector};
-use c_handles::{AnyBoard, BoardHandle};
-use c_terms::{CEvent, CReply, Fault, fault_to_c, perform_c, reply_to_c};
-use synic_board::Event;
+use c_handles::{AnyBoard, BoardHandle, LiveWithNotices};
+use c_terms::{CEvent, CReply, Fault, event_of, fault_to_c, perform_c, reply_to_c};
+use synic_board::{Event, Reply};
 
 /// The greatest number of bytes of a payload.
 const MOST_PAYLOAD: usize = 240;
@@ -121,19 +122,14 @@ pub extern "C" fn synicboard_post(
     }
 }
 
-/// Posts a message on a board, if it has no live pages.
+/// Posts a message on a board.
 #[inline(always)]
 fn post_in(board: &mut AnyBoard, port: u8, message_type: u32, payload: &[u8]) -> CReply
     requires { length payload.now ≤ 240 }
     ensures { IsPerformed (post_from_c port message_type payload.now) (Some board.old) (Some board.new) result }
 {
-    match board {
-        AnyBoard::Plain(board) => {
-            let reply = board.post(port, message_type, payload);
-            reply_to_c(reply, board.notices.as_slice().len() as u16)
-        }
-        AnyBoard::Live(_) => fault_to_c(Fault::IsLive),
-    }
+    let reply = board.post(port, message_type, payload);
+    reply_to_c(reply, board.notices().len() as u16)
 }
 
 /// Signals an event flag of a port.
@@ -177,19 +173,14 @@ pub extern "C" fn synicboard_store(handle: &mut BoardHandle, address: u64, bytes
     }
 }
 
-/// Stores bytes on a board, if it has no live pages.
+/// Stores bytes on a board.
 #[inline(always)]
 fn store_in(board: &mut AnyBoard, address: u64, bytes: &[u8]) -> CReply
     requires { length bytes.now ≤ 8 }
     ensures { IsPerformed (store_from_c address bytes.now) (Some board.old) (Some board.new) result }
 {
-    match board {
-        AnyBoard::Plain(board) => {
-            let reply = board.store(address, bytes);
-            reply_to_c(reply, board.notices.as_slice().len() as u16)
-        }
-        AnyBoard::Live(_) => fault_to_c(Fault::IsLive),
-    }
+    let reply = board.store(address, bytes);
+    reply_to_c(reply, board.notices().len() as u16)
 }
 
 /// A guest loads `length` bytes from a guest physical address.
@@ -278,16 +269,37 @@ pub extern "C" fn synicboard_perform(handle: &mut BoardHandle, plain: &CEvent) -
     }
 }
 
-/// Performs an event that is given as a struct on a board, if it has no live pages.
+/// Performs an event that is given as a struct on a board.
 #[inline(always)]
 fn perform_plain_in(board: &mut AnyBoard, plain: &CEvent) -> CReply
     ensures { IsPerformed (event_from_c plain.now) (Some board.old) (Some board.new) result }
 {
-    match board {
-        AnyBoard::Plain(board) => match perform_c(&mut board.board, &mut board.notices, plain) {
-            Some(reply) => reply_to_c(reply, board.notices.as_slice().len() as u16),
-            None => fault_to_c(Fault::NoEvent),
-        },
-        AnyBoard::Live(_) => fault_to_c(Fault::IsLive),
+    match perform_plain(board, plain) {
+        Some(reply) => reply_to_c(reply, board.notices().len() as u16),
+        None => fault_to_c(Fault::NoEvent),
     }
+}
+
+/// Performs the event that a struct encodes. `None` if it encodes none; then nothing changes.
+#[inline(always)]
+pub(crate) fn perform_plain(board: &mut AnyBoard, plain: &CEvent) -> Option<Reply>
+    ensures performed { IfSome result (λ r. PerformsSome (event_from_c plain.now) board.old board.new r) }
+    ensures none { IfNone result (event_from_c plain.now ≡ None) }
+    ensures kept { IfNone result (board.new ≡ board.old) }
+{
+    match board {
+        AnyBoard::Plain(board) => perform_c(&mut board.board, &mut board.notices, plain),
+        AnyBoard::Live(board) => perform_live(board, plain),
+    }
+}
+
+/// The same on a board with live pages. Out of line, so that the plain way has no event in memory.
+#[inline(never)]
+fn perform_live(board: &mut LiveWithNotices, plain: &CEvent) -> Option<Reply>
+    ensures performed { IfSome result (λ r. PerformsSome (event_from_c plain.now) (Live board.old) (Live board.new) r) }
+    ensures none { IfNone result (event_from_c plain.now ≡ None) }
+    ensures kept { IfNone result (board.new ≡ board.old) }
+{
+    let event = event_of(plain)?;
+    Some(board.perform(&event))
 }

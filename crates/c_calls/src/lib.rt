@@ -15,6 +15,8 @@ mod opening;
 mod pages;
 mod perform_on;
 mod recorded;
+mod sources;
+mod stepping;
 mod texts;
 mod tsc;
 mod views;

@@ -1,29 +1,17 @@
 // Boards whose message and event flags pages a running guest loads and stores.
 ghost use Rattle.std.specs.Prelude.{◌≡◌, ◌≢◌, ◌↔◌, ◌<◌, ◌≤◌, true, false, [], ◌∷◌, length, None, Some, IfSome, IfNone, IsTrue};
 ghost use Rattle.c_handles.specs.Kinds.{IsMadeLive};
-ghost use Rattle.c_terms.specs.Events.{event_from_c};
 ghost use Rattle.live_board.specs.Live.{IsObserved};
-ghost use Rattle.live_board.specs.Settling.{IsSettled};
+ghost use Rattle.live_board.specs.Refreshing.{IsRefreshed};
 ghost use Rattle.synic_board.specs.State.{processors};
-ghost use Rattle.c_calls.specs.Live.{is_live, GotPages, alone, IsActedLive, IsActedOn, IsLookedAt};
+ghost use Rattle.c_calls.specs.Live.{is_live, GotPages, eoms_of, IsLookedAt};
 ghost use Rattle.c_calls.specs.Outcomes.{is_among};
 
 use board_terms::{Refusal, Vp};
 use c_handles::{AnyBoard, BoardHandle, LiveWithNotices};
-use c_terms::{CEvent, CReply, Fault, event_of, fault_to_c, reply_to_c};
+use c_terms::{CReply, Fault, fault_to_c, reply_to_c};
 use std::alloc::Global;
-use synic_board::{Event, Reply};
-
-/// The reply to an event on a board that may have live pages.
-#[repr(C)]
-#[derive(Clone, Copy)]
-pub struct CLiveReply {
-    /// The reply to the event itself.
-    pub reply: CReply,
-    /// The processors of which the board performed an EOM after the event, since a message waited whose slot
-    /// the guest had emptied: bit p for processor p.
-    pub eoms: u64,
-}
+use synic_board::Reply;
 
 /// Gives the board of a handle live pages, which have the bytes of its message and event flags pages.
 /// Returns 0; or 2 if an allocation fails, 4 if the handle is closed, 14 if the board has live pages.
@@ -64,48 +52,17 @@ fn is_live(board: &AnyBoard) -> bool
     matches!(board, AnyBoard::Live(_))
 }
 
-/// Performs an event that is given as a struct, on a board that may have live pages, and an EOM of each
-/// processor that is owed one after it.
+/// The processors of which the board performed an EOM after the last event, since a message waited whose slot
+/// the guest had emptied: bit p for processor p. None of a board without live pages.
 #[unsafe(no_mangle)]
-pub extern "C" fn synicboard_act_live(handle: &mut BoardHandle, plain: &CEvent) -> CLiveReply
-    ensures { IsActedLive (event_from_c plain.now) handle.old.board handle.new.board result }
+pub extern "C" fn synicboard_eoms(handle: &mut BoardHandle) -> u64
+    ensures board { handle.new.board ≡ handle.old.board }
+    ensures eoms { result ≡ eoms_of handle.old.board }
 {
-    match (handle.board_mut(), event_of(plain)) {
-        (None, _) => alone(fault_to_c(Fault::Closed)),
-        (Some(_), None) => alone(fault_to_c(Fault::NoEvent)),
-        (Some(board), Some(event)) => act_in(board, &event),
+    match handle.board_mut() {
+        Some(board) => board.eoms(),
+        None => 0,
     }
-}
-
-/// Performs an event on a board of either kind.
-fn act_in(board: &mut AnyBoard, event: &Event) -> CLiveReply
-    ensures { IsActedLive (Some event.now) (Some board.old) (Some board.new) result }
-{
-    match board {
-        AnyBoard::Live(board) => act(board, event),
-        AnyBoard::Plain(board) => {
-            let reply = board.perform(event);
-            alone(reply_to_c(reply, board.notices.as_slice().len() as u16))
-        }
-    }
-}
-
-/// Performs an event on a board with live pages.
-fn act(board: &mut LiveWithNotices, event: &Event) -> CLiveReply
-    ensures { IsActedOn board.old event.now board.new result }
-{
-    let (reply, eoms) = board.perform(event);
-    CLiveReply {
-        reply: reply_to_c(reply, board.notices.as_slice().len() as u16),
-        eoms,
-    }
-}
-
-/// A reply after which the board performed no EOM.
-fn alone(reply: CReply) -> CLiveReply
-    ensures { result ≡ alone reply }
-{
-    CLiveReply { reply, eoms: 0 }
 }
 
 /// Looks at the header of each message slot of processor `vp` in its live page, if the guest sees it: the
@@ -138,7 +95,7 @@ fn observe_in(board: &mut AnyBoard, vp: u8) -> CReply
 /// what the guest has stored. Done; refused if there is no such processor.
 #[unsafe(no_mangle)]
 pub extern "C" fn synicboard_observe_all(handle: &mut BoardHandle, vp: u8) -> CReply
-    ensures { IsLookedAt IsSettled vp handle.old.board handle.new.board result }
+    ensures { IsLookedAt IsRefreshed vp handle.old.board handle.new.board result }
 {
     match handle.board_mut() {
         Some(board) => observe_all_in(board, vp),
@@ -147,7 +104,7 @@ pub extern "C" fn synicboard_observe_all(handle: &mut BoardHandle, vp: u8) -> CR
 }
 
 fn observe_all_in(board: &mut AnyBoard, vp: u8) -> CReply
-    ensures { IsLookedAt IsSettled vp (Some board.old) (Some board.new) result }
+    ensures { IsLookedAt IsRefreshed vp (Some board.old) (Some board.new) result }
 {
     let AnyBoard::Live(board) = board else {
         return fault_to_c(Fault::NotLive);
@@ -155,7 +112,7 @@ fn observe_all_in(board: &mut AnyBoard, vp: u8) -> CReply
     let Some(vp) = vp_of(board, vp) else {
         return reply_to_c(Reply::Refused(Refusal::NoSuchProcessor), 0);
     };
-    board.settle(vp);
+    board.refresh(vp);
     reply_to_c(Reply::Done, board.notices.as_slice().len() as u16)
 }
 

@@ -1,13 +1,12 @@
 // Performing an event on the board of a handle.
-ghost use Rattle.std.specs.Prelude.{None, Some};
+ghost use Rattle.std.specs.Prelude.{◌≡◌, None, Some};
 ghost use Rattle.c_calls.specs.Performing.{IsPerformed};
 
 use c_handles::{AnyBoard, BoardHandle};
 use c_terms::{CReply, Fault, fault_to_c, reply_to_c};
 use synic_board::Event;
 
-/// Performs an event on the board of a handle, if it is open and has no live pages. Inlined in each
-/// call, where the kind
+/// Performs an event on the board of a handle, if it is open. Inlined in each call, where the kind
 /// of the event is a constant.
 #[inline(always)]
 pub(crate) fn perform_on(handle: &mut BoardHandle, event: &Event) -> CReply
@@ -21,35 +20,22 @@ pub(crate) fn perform_on(handle: &mut BoardHandle, event: &Event) -> CReply
     // README c_handles: end
 }
 
-/// Performs an event on a board, if it has no live pages.
+/// Performs an event on a board.
 #[inline(always)]
-fn perform_in(board: &mut AnyBoard, event: &Event) -> CReply
+pub(crate) fn perform_in(board: &mut AnyBoard, event: &Event) -> CReply
     ensures { IsPerformed (Some event.now) (Some board.old) (Some board.new) result }
 {
-    match board {
-        AnyBoard::Plain(board) => {
-            let reply = board.perform(event);
-            reply_to_c(reply, board.notices.as_slice().len() as u16)
-        }
-        AnyBoard::Live(_) => fault_to_c(Fault::IsLive),
-    }
+    let reply = board.perform(event);
+    reply_to_c(reply, board.notices().len() as u16)
 }
 
 /// The reply of a call whose arguments encode no event.
 pub(crate) fn no_event(handle: &mut BoardHandle) -> CReply
-    ensures { IsPerformed None handle.old.board handle.new.board result }
+    ensures board { handle.new.board ≡ handle.old.board }
+    ensures performed { IsPerformed None handle.old.board handle.new.board result }
 {
     match handle.board_mut() {
-        Some(board) => no_event_in(board),
+        Some(_) => fault_to_c(Fault::NoEvent),
         None => fault_to_c(Fault::Closed),
-    }
-}
-
-fn no_event_in(board: &AnyBoard) -> CReply
-    ensures { IsPerformed None (Some board.now) (Some board.now) result }
-{
-    match board {
-        AnyBoard::Plain(_) => fault_to_c(Fault::NoEvent),
-        AnyBoard::Live(_) => fault_to_c(Fault::IsLive),
     }
 }

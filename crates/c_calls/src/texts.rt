@@ -1,5 +1,5 @@
 // Scripts, traces and images in buffers.
-ghost use Rattle.std.specs.Prelude.{◌≡◌, ◌≢◌, ◌<◌, ◌↔◌, true, [], ◌∷◌, None};
+ghost use Rattle.std.specs.Prelude.{◌≡◌, ◌≢◌, ◌<◌, ◌↔◌, true, [], ◌∷◌, None, Some};
 ghost use Rattle.text_history.specs.Trace.{IsTrace};
 ghost use Rattle.text_trace.specs.Verdicts.{FirstIllegal};
 ghost use Rattle.c_terms.specs.Events.{event_from_c};
@@ -8,7 +8,7 @@ ghost use Rattle.c_terms.specs.Entries.{entry_text};
 ghost use Rattle.c_calls.specs.Outcomes.{is_among};
 ghost use Rattle.c_calls.specs.Texts.{IsReplay, IsSaved, AreLines};
 
-use c_handles::BoardHandle;
+use c_handles::{AnyBoard, BoardHandle};
 use c_terms::{CEvent, CReply, EntryFault, lines_of, put_bytes};
 use std::alloc::Global;
 use text_image::put_image;
@@ -68,15 +68,22 @@ pub extern "C" fn synicboard_replay(alloc: Global, script: &[u8], room: &mut [u8
     CEnd { kind, line, length }
 }
 
-/// Writes the image of a board to a buffer, as much as fits. Allocates the image.
+/// Writes the image of a board to a buffer, as much as fits. If the board has live pages, all words of those
+/// that the guest sees are looked at first. Allocates the image.
 #[unsafe(no_mangle)]
 pub extern "C" fn synicboard_save(alloc: Global, handle: &mut BoardHandle, room: &mut [u8]) -> CEnd
-    ensures board { handle.new.board ≡ handle.old.board }
-    ensures saved { IsSaved handle.old.board room.old room.new result }
+    ensures { IsSaved handle.old.board handle.new.board room.old room.new result }
 {
-    let Some(board) = handle.board_mut() else {
-        return not_written(4, 0);
-    };
+    match handle.board_mut() {
+        Some(board) => save(alloc, board, room),
+        None => not_written(4, 0),
+    }
+}
+
+fn save(alloc: Global, board: &mut AnyBoard, room: &mut [u8]) -> CEnd
+    ensures { IsSaved (Some board.old) (Some board.new) room.old room.new result }
+{
+    board.refresh_all();
     let mut image: Vec<u8> = Vec::new(alloc);
     if put_image(&mut image, board.board()).is_err() {
         return not_written(2, 0);

@@ -1,7 +1,7 @@
 // The reference TSC page.
 ghost use Rattle.std.specs.Prelude.{◌≡◌, ◌<◌, ◌≤◌};
 ghost use Rattle.reference_tsc.specs.Page.{units, scale_of};
-ghost use Rattle.c_calls.specs.Tsc.{no_page, time_at};
+ghost use Rattle.c_calls.specs.Tsc.{no_page, time_at, IsUntil};
 
 use reference_tsc::TscPage;
 
@@ -51,4 +51,21 @@ pub extern "C" fn synicboard_tsc_time(page: CTscPage, tsc: u64) -> u64
 {
     let CTscPage { scale, offset } = page;
     TscPage { scale, offset }.time_at(tsc)
+}
+
+/// The first TSC from which on a page has at least the time `time`: 0 if that is before the page's start, 2^64 - 1
+/// if a TSC of 64 bits never gets there.
+#[unsafe(no_mangle)]
+pub extern "C" fn synicboard_tsc_until(page: CTscPage, time: u64) -> u64
+    ensures { IsUntil page time result }
+{
+    let CTscPage { scale, offset } = page;
+    let passed = time.wrapping_sub(offset);
+    if passed >= 1 << 63 {
+        return 0;
+    }
+    match (TscPage { scale, offset }).first_with(passed) {
+        Some(tsc) => tsc,
+        None => u64::MAX,
+    }
 }

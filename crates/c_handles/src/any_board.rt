@@ -1,8 +1,8 @@
 // A board of either kind.
-ghost use Rattle.std.specs.Prelude.{◌≡◌, [], IfOk, OnErr};
-ghost use Rattle.synic_board.specs.declared.event.Event.TheVariants.{Absorb};
+ghost use Rattle.std.specs.Prelude.{◌≡◌, ◌≤◌, [], length, IfOk, OnErr};
+ghost use Rattle.synic_board.specs.declared.event.Event.TheVariants.{Absorb, Post, Store};
 ghost use Rattle.synic_board.specs.Performing.{Performs};
-ghost use Rattle.c_handles.specs.Kinds.{board_in, notices_in, pages_in, IsMadeLive};
+ghost use Rattle.c_handles.specs.Kinds.{board_in, notices_in, eoms_in, pages_in, PerformsOn, IsRefreshedOn, IsMadeLive};
 
 use crate::{BoardWithNotices, LiveWithNotices};
 use board_terms::Notice;
@@ -32,7 +32,8 @@ impl AnyBoard {
 
     /// The notices of the last event.
     pub fn notices(&self) -> &[Notice]
-        ensures { result.now ≡ notices_in self.now }
+        ensures value { result.now ≡ notices_in self.now }
+        ensures bound { length result.now ≤ 22720 }
     {
         match self {
             AnyBoard::Plain(held) => held.notices.as_slice(),
@@ -40,16 +41,75 @@ impl AnyBoard {
         }
     }
 
+    /// The processors of which the board performed an EOM after the last event, since a message waited whose
+    /// slot the guest had emptied: bit p for processor p. None of a board without live pages.
+    pub fn eoms(&self) -> u64
+        ensures { result ≡ eoms_in self.now }
+    {
+        match self {
+            AnyBoard::Plain(_) => 0,
+            AnyBoard::Live(held) => held.eoms,
+        }
+    }
+
+    /// Performs an event, and an EOM of each processor that is owed one after it, and replaces notices and
+    /// EOMs by theirs. Never allocates. Inlined, as `Board::perform` is.
+    #[inline(always)]
+    pub fn perform(&mut self, event: &Event) -> Reply
+        ensures { PerformsOn self.old event.now self.new result }
+    {
+        match self {
+            AnyBoard::Plain(held) => held.perform(event),
+            AnyBoard::Live(held) => held.perform(event),
+        }
+    }
+
+    /// `perform` of a post, with a borrowed payload of at most 240 bytes.
+    #[inline(always)]
+    pub fn post(&mut self, port: u8, kind: u32, payload: &[u8]) -> Reply
+        requires { length payload.now ≤ 240 }
+        ensures { PerformsOn self.old (Post port kind (record { items = payload.now })) self.new result }
+    {
+        match self {
+            AnyBoard::Plain(held) => held.post(port, kind, payload),
+            AnyBoard::Live(held) => held.post(port, kind, payload),
+        }
+    }
+
+    /// `perform` of a store of at most 8 bytes, which are borrowed.
+    #[inline(always)]
+    pub fn store(&mut self, address: u64, bytes: &[u8]) -> Reply
+        requires { length bytes.now ≤ 8 }
+        ensures { PerformsOn self.old (Store address (record { items = bytes.now })) self.new result }
+    {
+        match self {
+            AnyBoard::Plain(held) => held.store(address, bytes),
+            AnyBoard::Live(held) => held.store(address, bytes),
+        }
+    }
+
+    /// Brings the own pages of a board with live pages up to date, as `LiveBoard::refresh_all` does, for an
+    /// image; the notices are those of the guest's stores that were found. Does nothing to any other board.
+    pub fn refresh_all(&mut self)
+        ensures { IsRefreshedOn self.old self.new }
+    {
+        match self {
+            AnyBoard::Plain(_) => {}
+            AnyBoard::Live(held) => held.refresh_all(),
+        }
+    }
+
     /// Performs `Event::Absorb`, which accesses no page.
     pub fn absorb(&mut self, vp: u8, part: u8, bits: u64) -> Reply
         ensures performs { Performs (board_in self.old) (Absorb vp part bits) (board_in self.new) result
             (notices_in self.new) }
+        ensures eoms { eoms_in self.new ≡ 0 }
         ensures pages { pages_in self.new ≡ pages_in self.old }
     {
         let event = Event::Absorb { vp, part, bits };
         match self {
             AnyBoard::Plain(held) => held.perform(&event),
-            AnyBoard::Live(held) => held.perform(&event).0,
+            AnyBoard::Live(held) => held.perform(&event),
         }
     }
 

@@ -91,6 +91,7 @@ impl BoardWithNotices {
     pub fn into_live(self, alloc: Global) -> Result<LiveWithNotices, BoardWithNotices>
         ensures live { IfOk result (λ held. held.live.board ≡ self.board) }
         ensures notices { IfOk result (λ held. held.notices ≡ []) }
+        ensures eoms { IfOk result (λ held. held.eoms ≡ 0) }
         ensures kept { IfErr result (λ back. back ≡ self) }
     {
         let BoardWithNotices { board, notices } = self;

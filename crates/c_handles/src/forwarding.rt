@@ -7,7 +7,7 @@ ghost use Rattle.synic_board.specs.declared.event.Event.TheVariants.{Take, Write
 ghost use Rattle.synic_regs.specs.Registers.{number_of_register};
 ghost use Rattle.synic_regs.specs.declared.register.Register.TheVariants.{Eoi};
 ghost use Rattle.c_handles.specs.Forwarding.{IsForwarded};
-ghost use Rattle.c_handles.specs.Kinds.{board_in, state_in, notices_in, pages_in};
+ghost use Rattle.c_handles.specs.Kinds.{board_in, state_in, notices_in, eoms_in, pages_in};
 ghost use Rattle.c_handles.specs.inside.ForwardingOne.{ForwardsOne};
 
 use crate::AnyBoard;
@@ -45,6 +45,7 @@ impl AnyBoard {
         requires { vp < processors (state_in self.old) }
         ensures forwarded { IsForwarded (state_in self.old) vp (state_in self.new) result }
         ensures notices { notices_in self.new ≡ [] }
+        ensures eoms { eoms_in self.new ≡ 0 }
         ensures pages { pages_in self.new ≡ pages_in self.old }
     {
         let mut forwarded = Forwarded::none();
@@ -57,8 +58,10 @@ impl AnyBoard {
     fn forward_one(&mut self, vp: Vp, forwarded: &mut Forwarded) -> bool
         requires on { vp < processors (state_in self.old) }
         requires notices { notices_in self.old ≡ [] }
+        requires eoms { eoms_in self.old ≡ 0 }
         ensures one { ForwardsOne (state_in self.old) vp (state_in self.new) forwarded.old forwarded.new result }
         ensures notices { notices_in self.new ≡ [] }
+        ensures eoms { eoms_in self.new ≡ 0 }
         ensures pages { pages_in self.new ≡ pages_in self.old }
     {
         let Some(vector) = self.board().lapic(vp).next() else {
@@ -78,12 +81,13 @@ impl AnyBoard {
     /// Performs `Event::Take`, which accesses no page.
     fn take(&mut self, vp: Vp) -> Reply
         ensures performs { Performs (board_in self.old) (Take vp) (board_in self.new) result (notices_in self.new) }
+        ensures eoms { eoms_in self.new ≡ 0 }
         ensures pages { pages_in self.new ≡ pages_in self.old }
     {
         let event = Event::Take { vp: vp.number() };
         match self {
             AnyBoard::Plain(held) => held.perform(&event),
-            AnyBoard::Live(held) => held.perform(&event).0,
+            AnyBoard::Live(held) => held.perform(&event),
         }
     }
 
@@ -91,6 +95,7 @@ impl AnyBoard {
     fn end(&mut self, vp: Vp) -> Reply
         ensures performs { Performs (board_in self.old) (Write vp (number_of_register Eoi) 0)
             (board_in self.new) result (notices_in self.new) }
+        ensures eoms { eoms_in self.new ≡ 0 }
         ensures pages { pages_in self.new ≡ pages_in self.old }
     {
         let event = Event::Write {
@@ -100,19 +105,20 @@ impl AnyBoard {
         };
         match self {
             AnyBoard::Plain(held) => held.perform(&event),
-            AnyBoard::Live(held) => held.perform(&event).0,
+            AnyBoard::Live(held) => held.perform(&event),
         }
     }
 
-    /// Removes the notices of the last event.
+    /// Removes the notices and the EOMs of the last event.
     fn clear_notices(&mut self)
         ensures board { board_in self.new ≡ board_in self.old }
         ensures pages { pages_in self.new ≡ pages_in self.old }
         ensures notices { notices_in self.new ≡ [] }
+        ensures eoms { eoms_in self.new ≡ 0 }
     {
         match self {
             AnyBoard::Plain(held) => held.notices.clear(),
-            AnyBoard::Live(held) => held.notices.clear(),
+            AnyBoard::Live(held) => held.clear(),
         }
     }
 }

@@ -15,6 +15,6 @@ pub use batches::{Batch, BatchEnd, perform_batch};
 pub use entries::{EntryFault, lines_of};
 pub use event::{CEvent, event_of, perform_c};
 pub use history::trace_of;
-pub use notice::{CNotice, notice_to_c, put_plain};
+pub use notice::{CNotice, notice_to_c, put_more, put_plain};
 pub use reply::{CReply, Fault, fault_to_c, reply_of, reply_to_c};
 pub use room::put_bytes;

@@ -1,7 +1,8 @@
 // Notices as plain structs.
-ghost use Rattle.std.specs.Prelude.{◌≡◌, map};
+ghost use Rattle.std.specs.Prelude.{◌≡◌, List, ◌++◌, map, length};
 ghost use Rattle.c_terms.specs.Notices.{notice_to_c, empty_notice};
 ghost use Rattle.c_terms.specs.Rooms.{Fronts};
+ghost use Rattle.c_terms.specs.declared.notice.CNotice.{CNotice as Plain};
 
 use board_terms::Notice;
 
@@ -105,5 +106,15 @@ pub fn put_plain(notices: &[Notice], room: &mut [CNotice])
 {
     for at in 0..notices.len().min(room.len()) {
         room[at] = notice_to_c(&notices[at]);
+    }
+}
+
+/// Copies encoded notices to a buffer after the `count` that were copied to its front, as many as fit.
+pub fn put_more(notices: &[Notice], count: usize, room: &mut [CNotice])
+    ensures { (first before : List Plain) → length first ≡ count → Fronts first before room.old
+        → Fronts (first ++ map notice_to_c notices.now) before room.new }
+{
+    if count < room.len() {
+        put_plain(notices, &mut room[count..]);
     }
 }

@@ -13,7 +13,7 @@ use Rattle.synic_board.specs.declared.event.Event.TheVariants.{Post}
 use Rattle.synic_board.specs.declared.event.Reply.{Reply}
 use Rattle.synic_board.specs.State.{State}
 use Rattle.live_pages.specs.Headers.{is_occupied}
-use Rattle.live_pages.specs.Slot.{known, header, type_of, pending_mask}
+use Rattle.live_pages.specs.Words.{known, header, type_of, pending_mask}
 use Rattle.live_pages.specs.declared.access.Access.{Access}
 use Rattle.live_pages.specs.declared.access.Access.TheVariants.{Load, FetchOr, Store}
 use Rattle.live_board.specs.Live.{LiveModel, IsLive, HasPlaced, slot_word, IsShown, AreCareful, AreReads, AreLooks, AreMarks, AreProbes, AreStores, ArePuts, IsStoredAnew, HasProbed, ProbesIf, AreDueDirect, is_any_due, is_waiting, log_of}

@@ -18,10 +18,10 @@ use Rattle.synic_board.specs.Run.{run_of}
 use Rattle.synic_board.specs.Sound.{IsSound, PayloadFits}
 use Rattle.synic_board.specs.State.{State, processors, space_of}
 use Rattle.live_pages.specs.declared.access.Access.{Access}
-use Rattle.live_board.specs.Hiding.{IsSettledIf, IsSettledUnder, IsHiding}
+use Rattle.live_board.specs.Hiding.{IsRefreshedIf, IsRefreshedUnder, IsHiding}
 use Rattle.live_board.specs.Live.{LiveModel, IsReset, FindInPage, log_of, explained}
-use Rattle.live_board.specs.Settling.{IsSettled, AreAllLoads, AreLoads}
-use Rattle.live_board.proofs.Guests.{Rest, guest-stores, fits-all, looks-of, settle-changes, settle-conserves}
+use Rattle.live_board.specs.Refreshing.{IsRefreshed, AreAllLoads, AreLoads}
+use Rattle.live_board.proofs.Guests.{Rest, guest-stores, fits-all, looks-of, refresh-changes, refresh-conserves}
 use Rattle.law_processors.specs.Isolation.{Keeps, Untouched, is_overlay_of, processor_of}
 use Rattle.law_processors.proofs.Isolating.{leaves-alone}
 use Rattle.law_live.specs.Alone.{IsLeftAlone}
@@ -64,28 +64,28 @@ loads-within (suc n) news few (found, rest, is, more) =
     subst FindInPage (sym is) (omega (arith, few), loads-within n rest (omega (arith, few)) more)
 
 -- all words of one page
-settled-elsewhere : (s t : State) (p q : ℕ) (k : Kind) (news log : List Access) → Rest s t → p ≢ q
+refreshed-elsewhere : (s t : State) (p q : ℕ) (k : Kind) (news log : List Access) → Rest s t → p ≢ q
     → AreAllLoads s p k news
     → Untouched t (explained s p k news log) q × Rest t (run_of t (explained s p k news log)).0
-settled-elsewhere s t p q k news log rest ne are =
+refreshed-elsewhere s t p q k news log rest ne are =
     looked-elsewhere s t p q k news log rest ne (λ shown. loads-within 512 news (omega arith) (are.shown shown))
     (λ no. shows-none s p k news log (are.hidden no))
 
-pub alone-settled : (p q : ℕ) (old now : LiveModel) (notices : List Notice) → IsSound old.board.state → p ≢ q
-    → IsSettled p old now notices → IsLeftAlone q old now notices
-alone-settled p q old now notices sound ne t =
+pub alone-refreshed : (p q : ℕ) (old now : LiveModel) (notices : List Notice) → IsSound old.board.state → p ≢ q
+    → IsRefreshed p old now notices → IsLeftAlone q old now notices
+alone-refreshed p q old now notices sound ne t =
     let s : State = old.board.state in
     let ea : List Event = explained s p Sim t.messages (log_of old p Sim) in
     let eb : List Event = explained s p Sief t.flags (log_of old p Sief) in
-    let first = settled-elsewhere s s p q Sim t.messages (log_of old p Sim) refl ne t.are_messages in
-    let last = settled-elsewhere s (run_of s ea).0 p q Sief t.flags (log_of old p Sief) first.1 ne t.are_flags in
+    let first = refreshed-elsewhere s s p q Sim t.messages (log_of old p Sim) refl ne t.are_messages in
+    let last = refreshed-elsewhere s (run_of s ea).0 p q Sief t.flags (log_of old p Sief) first.1 ne t.are_flags in
     alone-run q old now (ea ++ eb) _ notices sound
     (All-append PayloadFits ea eb (fits-all s p Sim ea (guest-stores s p Sim t.messages (log_of old p Sim)))
     (fits-all s p Sief eb (guest-stores s p Sief t.flags (log_of old p Sief))))
     (untouched-append ea eb s q first.0 last.0) t.run (λ kind. both-beside p q kind old now _ _ t.pages ne)
     (both-count p old now _ _ t.pages)
 
--- what a settled board is: sound, and the same except for own pages and tickets of slots
+-- what a refreshed board is: sound, and the same except for own pages and tickets of slots
 pub record IsLooked (old now : LiveModel) : Type 0 where
   pub sound : IsSound now.board.state
   pub rest : Rest old.board.state now.board.state
@@ -96,28 +96,28 @@ looked-same old now sound same = record {
   rest = subst (λ (m : LiveModel). Rest old.board.state m.board.state) (sym same) refl;
 }
 
-pub settled-if : (on : Bool) (p q : ℕ) (old now : LiveModel) (notices : List Notice) → IsSound old.board.state
-    → p ≢ q → IsSettledIf on p old now notices → IsLeftAlone q old now notices × IsLooked old now
-settled-if true p q old now notices sound ne h = (
-  alone-settled p q old now notices sound ne h,
-  record { sound = (settle-conserves p old now notices sound h).0; rest = settle-changes p old now notices h },
+pub refreshed-if : (on : Bool) (p q : ℕ) (old now : LiveModel) (notices : List Notice) → IsSound old.board.state
+    → p ≢ q → IsRefreshedIf on p old now notices → IsLeftAlone q old now notices × IsLooked old now
+refreshed-if true p q old now notices sound ne h = (
+  alone-refreshed p q old now notices sound ne h,
+  record { sound = (refresh-conserves p old now notices sound h).0; rest = refresh-changes p old now notices h },
 )
-settled-if false p q old now notices sound ne h =
+refreshed-if false p q old now notices sound ne h =
     (alone-same q old now notices h.0 h.1, looked-same old now sound h.0)
 
 -- an owner that is not of the processor
 pub apart : (p q : ℕ) → (p == q) ≡ false → p ≢ q
 apart p q differ e = grind (arith, nat_tests)
 
-pub settled-under : (o : Owner) (q : ℕ) (old now : LiveModel) (notices : List Notice) → IsSound old.board.state
-    → is_overlay_of q o ≡ false → IsSettledUnder o old now notices → IsLeftAlone q old now notices × IsLooked old now
-settled-under (owner.Sim p) q old now notices sound other h =
-    settled-if (nat_lt p (processors old.board.state)) p q old now notices sound (apart p q other) h
-settled-under (owner.Sief p) q old now notices sound other h =
-    settled-if (nat_lt p (processors old.board.state)) p q old now notices sound (apart p q other) h
-settled-under owner.Guest q old now notices sound other h =
+pub refreshed-under : (o : Owner) (q : ℕ) (old now : LiveModel) (notices : List Notice) → IsSound old.board.state
+    → is_overlay_of q o ≡ false → IsRefreshedUnder o old now notices → IsLeftAlone q old now notices × IsLooked old now
+refreshed-under (owner.Sim p) q old now notices sound other h =
+    refreshed-if (nat_lt p (processors old.board.state)) p q old now notices sound (apart p q other) h
+refreshed-under (owner.Sief p) q old now notices sound other h =
+    refreshed-if (nat_lt p (processors old.board.state)) p q old now notices sound (apart p q other) h
+refreshed-under owner.Guest q old now notices sound other h =
     (alone-same q old now notices h.0 h.1, looked-same old now sound h.0)
-settled-under owner.Nothing q old now notices sound other h =
+refreshed-under owner.Nothing q old now notices sound other h =
     (alone-same q old now notices h.0 h.1, looked-same old now sound h.0)
 
 -- a write of SIMP or SIEFP of another processor, to a page number where none of this one's pages is seen
@@ -130,15 +130,15 @@ alone-hiding p q number value old now reply notices sound ne other h =
     (alone-then q old h.own h.under h.first h.second own.0 under.0) last)
   where
     own : IsLeftAlone q old h.own h.first × IsLooked old h.own
-    own = settled-if (nat_lt p (processors old.board.state)) p q old h.own h.first sound ne h.settled
+    own = refreshed-if (nat_lt p (processors old.board.state)) p q old h.own h.first sound ne h.refreshed
 
     same-owner : owner_of (space_of h.own.board.state) (page_of value)
         ≡ owner_of (space_of old.board.state) (page_of value)
     same-owner = ap (λ (t : State). owner_of (space_of t) (page_of value)) own.1.rest
 
     under : IsLeftAlone q h.own h.under h.second × IsLooked h.own h.under
-    under = settled-under (owner_of (space_of h.own.board.state) (page_of value)) q h.own h.under h.second own.1.sound
-        (ap (is_overlay_of q) same-owner ∙ other) h.settled_under
+    under = refreshed-under (owner_of (space_of h.own.board.state) (page_of value)) q h.own h.under h.second own.1.sound
+        (ap (is_overlay_of q) same-owner ∙ other) h.refreshed_under
 
     last : IsLeftAlone q h.under now h.last
     last =

@@ -13,7 +13,7 @@ use Rattle.synic_board.specs.declared.event.Event.TheVariants.{Store}
 use Rattle.synic_board.specs.State.{State, space_of}
 use Rattle.synic_board.specs.Run.{Run, run_of}
 use Rattle.synic_board.specs.Step.{step}
-use Rattle.live_pages.specs.Slot.{known}
+use Rattle.live_pages.specs.Words.{known}
 use Rattle.live_pages.specs.declared.access.Access.{Access}
 use Rattle.live_pages.specs.declared.access.Access.TheVariants as access
 use Rattle.live_board.specs.Live.{IsShown, FindInPage, AreMarks, explained, explained_after, looked_from, marked_from, number_at, owner_at, store_of, shown_by, marked_by}

@@ -10,7 +10,7 @@ use Rattle.synic_board.specs.declared.event.Event.{Event}
 use Rattle.synic_board.specs.declared.event.Event.TheVariants.{Post}
 use Rattle.synic_board.specs.declared.event.Reply.{Reply}
 use Rattle.synic_board.specs.State.{ports_of}
-use Rattle.live_pages.specs.Slot.{header}
+use Rattle.live_pages.specs.Words.{header}
 use Rattle.live_pages.specs.declared.access.Access.{Access}
 use Rattle.live_board.specs.Acting.{HasPlacedAt, IsEnded}
 use Rattle.live_board.specs.Live.{LiveModel, IsLive, IsTimed, IsTicked, IsShown, log_of}

@@ -3,7 +3,7 @@ use Rattle.std.proofs.Common.{◌≡◌, ◌≢◌, ◌⊎◌, inl, inr, ℕ, ze
 use Rattle.std.specs.Prelude.{◌==◌, bit_or, if◌then◌else◌}
 use Rattle.std.proofs.lemmas.Bool.{cases_eq}
 use Rattle.std.proofs.lemmas.List.{append_cancel_right}
-use Rattle.live_pages.specs.Slot.{type_of, header}
+use Rattle.live_pages.specs.Words.{type_of, header}
 use Rattle.live_pages.specs.Traces.{memory, accesses, hosts_turns, IsHistory, IsGuestLoad}
 use Rattle.live_pages.specs.declared.access.Access.{Access}
 use Rattle.live_pages.specs.declared.access.Access.TheVariants.{Load, FetchOr, Store}

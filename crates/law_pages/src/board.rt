@@ -4,7 +4,7 @@ ghost use Rattle.std.specs.Int.{bit_at};
 ghost use Rattle.board_terms.specs.declared.pages.Kind.TheVariants.{Sim, Sief};
 ghost use Rattle.event_ports.specs.Ports.{port_at};
 ghost use Rattle.synic_board.specs.State.{ports_of};
-ghost use Rattle.live_pages.specs.Slot.{type_of};
+ghost use Rattle.live_pages.specs.Words.{type_of};
 ghost use Rattle.live_board.specs.Live.{IsGuestOf, IsShown, slot_word};
 ghost use Rattle.live_board.specs.Signals.{signalled_flag};
 

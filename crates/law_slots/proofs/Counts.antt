@@ -5,7 +5,7 @@ use Rattle.std.specs.Option.{IfSome, MatchOption}
 use Rattle.std.proofs.lemmas.Option.{IfSome_then, none-some}
 use Rattle.std.proofs.Math.Bool.{or-true}
 use Rattle.std.proofs.lemmas.Bool.Decides.{nat_tests}
-use Rattle.live_pages.specs.Slot.{is_pending}
+use Rattle.live_pages.specs.Words.{is_pending}
 use Rattle.live_pages.specs.Headers.{is_occupied}
 use Rattle.law_slots.specs.Slots.{Slot, Step, idle, careful, after_mark, owed_after_mark, is_any, rest, with_first, without, may, after, are_steps, led_to, start, is_round, rounds, one_more, after_kth, ahead_after, ahead, AMessageIsFollowed, EachMessageLeaves, EachMessageIsPlaced, is_calm, are_calm, is_in, posts, ticks, looks, marks, copies, fills, withdraws, observes, resets, takes, clears, drains, fences, sees, ends, asks, pays}
 use Rattle.law_slots.proofs.Headers.{mark-occupied, clear-occupied, both}

@@ -6,7 +6,7 @@ use Rattle.std.proofs.lemmas.Nat.{or_mod, le_or_l}
 use Rattle.std.proofs.lemmas.Nat.Bits.{bit_at_or, bit_at-lt}
 use Rattle.std.proofs.Math.Nat.{max-eq_left}
 use Rattle.std.proofs.lemmas.Bool.Decides.{nat_tests}
-use Rattle.live_pages.specs.Slot.{known, type_of, is_pending}
+use Rattle.live_pages.specs.Words.{known, type_of, is_pending}
 use Rattle.live_pages.specs.Traces.{memory, accesses, Finds, is_of}
 use Rattle.live_pages.specs.declared.access.Turn.{Turn}
 use Rattle.live_pages.specs.declared.access.Turn.TheVariants.{ByHost}

@@ -5,7 +5,7 @@ use mir.Syntax.{w64}
 use Rattle.std.specs.Int.Bits.{or_zero_r}
 use Rattle.std.proofs.lemmas.Nat.{or_mod}
 use Rattle.std.proofs.lemmas.Nat.Bits.{bit_at_set_same}
-use Rattle.live_pages.specs.Slot.{type_of, is_pending, pending_mask}
+use Rattle.live_pages.specs.Words.{type_of, is_pending, pending_mask}
 use Rattle.live_pages.specs.Headers.{is_occupied}
 
 pub mark-occupied : (h : ℕ) → is_occupied (bit_or h pending_mask) ≡ is_occupied h

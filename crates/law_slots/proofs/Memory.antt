@@ -2,7 +2,7 @@
 use Rattle.std.proofs.Common.{◌≡◌, ◌⊎◌, inl, inr, ℕ, Bool, true, false, List, [], ◌∷◌, ◌++◌, refl, sym, ap, ◌∙◌, arith, subst, append_assoc}
 use Rattle.std.specs.Prelude.{◌==◌, ◌||◌, if◌then◌else◌}
 use Rattle.std.proofs.lemmas.Bool.Decides.{nat_tests}
-use Rattle.live_pages.specs.Slot.{known, is_pending}
+use Rattle.live_pages.specs.Words.{known, is_pending}
 use Rattle.live_pages.specs.Traces.{memory, accesses, is_of, is_accessed}
 use Rattle.live_pages.specs.declared.access.Turn.{Turn}
 use Rattle.live_pages.specs.declared.access.Turn.TheVariants.{ByGuest}

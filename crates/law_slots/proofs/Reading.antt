@@ -5,7 +5,7 @@ use Rattle.std.specs.Int.{bit_at}
 use mir.Syntax.{w64}
 use Rattle.std.proofs.lemmas.Bool.Decides.{nat_tests}
 use Rattle.std.proofs.lemmas.Nat.Bits.{bit_at_set_other}
-use Rattle.live_pages.specs.Slot.{pending_mask}
+use Rattle.live_pages.specs.Words.{pending_mask}
 use Rattle.live_pages.specs.Traces.{memory, accesses}
 use Rattle.live_pages.specs.declared.access.Access.TheVariants.{Load, FetchOr, Store}
 use Rattle.live_pages.specs.Headers.{is_occupied}

@@ -1,7 +1,7 @@
 -- What holds between any two steps holds in any run.
 use Rattle.std.proofs.Common.{◌≡◌, ◌⊎◌, inl, inr, ℕ, ◌-◌, ◌+◌, ◌^◌, Bool, true, false, List, [], ◌∷◌, ◌++◌, refl, ap, ◌∙◌, arith}
 use Rattle.std.specs.Prelude.{not, ◌&&◌, ◌||◌, if◌then◌else◌, bit_or}
-use Rattle.live_pages.specs.Slot.{type_of, is_pending, pending_mask}
+use Rattle.live_pages.specs.Words.{type_of, is_pending, pending_mask}
 use Rattle.live_pages.specs.Headers.{is_occupied}
 use Rattle.law_slots.specs.Slots.{Slot, Step, HostAt, host_is, idle, looking, marking, late_looking, late_marking, filling, storing, careful, after_mark, owed_after_mark, is_any, rest, without, may, after, are_steps, led_to, start, can_go_on, can_access, NoMessageWaitsUnseen, AQueueIsNeverStuck, posts, ticks, looks, marks, copies, fills, withdraws, observes, resets, takes, clears, drains, fences, sees, ends, asks, pays}
 use Rattle.law_slots.proofs.Kept as k

@@ -1,7 +1,7 @@
 -- A whole run of one message slot in the words that contracts speak of: the host's log of accesses to a page, the
 -- history of the page, and what each call leaves.
 use Rattle.std.specs.Prelude.{◌≡◌, ◌⊎◌, ℕ, ◌-◌, ◌==◌, Bool, true, false, not, ◌&&◌, ◌||◌, List, [], ◌∷◌, ◌++◌, if◌then◌else◌}
-use Rattle.live_pages.specs.Slot.{known, type_of, is_pending, pending_mask}
+use Rattle.live_pages.specs.Words.{known, type_of, is_pending, pending_mask}
 use Rattle.live_pages.specs.Traces.{memory, accesses, is_accessed, Finds}
 use Rattle.live_pages.specs.declared.access.Turn.{Turn}
 use Rattle.live_pages.specs.declared.access.Turn.TheVariants.{ByHost, ByGuest}

@@ -2,7 +2,7 @@
 -- order (x86-TSO): each of its loads is of the memory that a history leaves.
 use Rattle.std.specs.Prelude.{◌≡◌, ◌≢◌, ℕ, ◌+◌, ◌&&◌, Bool, true, false, nat_le, nat_lt, List, [], ◌∷◌}
 use Rattle.std.specs.Int.{bit_at}
-use Rattle.live_pages.specs.Slot.{known, pending_mask}
+use Rattle.live_pages.specs.Words.{known, pending_mask}
 use Rattle.live_pages.specs.Traces.{memory, accesses, Finds}
 use Rattle.live_pages.specs.declared.access.Access.{Access}
 use Rattle.live_pages.specs.declared.access.Access.TheVariants.{Load, FetchOr, Store}

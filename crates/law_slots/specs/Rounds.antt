@@ -1,6 +1,6 @@
 -- How long a message waits, on the log and the history of a page: until a call stores the header.
 use Rattle.std.specs.Prelude.{◌≡◌, ℕ, ◌+◌, ◌≤◌, ◌==◌, Bool, true, false, not, ◌&&◌, ◌||◌, List, [], ◌∷◌, if◌then◌else◌}
-use Rattle.live_pages.specs.Slot.{type_of}
+use Rattle.live_pages.specs.Words.{type_of}
 use Rattle.live_pages.specs.Traces.{memory}
 use Rattle.live_pages.specs.declared.access.Access.{Access}
 use Rattle.live_pages.specs.declared.access.Access.TheVariants.{Load, FetchOr, Store}

@@ -2,7 +2,7 @@
 -- the slot (TLFS, "SynIC Message Flags"), on a processor that delays stores (x86-TSO).
 use Rattle.std.specs.Prelude.{◌≡◌, ◌⊎◌, ℕ, zero, suc, ◌+◌, ◌-◌, ◌*◌, ◌<◌, ◌==◌, Bool, true, false, not, ◌&&◌, ◌||◌, bit_or, List, [], ◌∷◌, ◌++◌, length, slice_index_or, Option, Some, None, if◌then◌else◌}
 use Rattle.std.specs.Option.{MatchOption}
-use Rattle.live_pages.specs.Slot.{type_of, is_pending, pending_mask}
+use Rattle.live_pages.specs.Words.{type_of, is_pending, pending_mask}
 use Rattle.live_pages.specs.Headers.{is_occupied}
 
 -- what the host does next in its call: nothing, load the header, mark it, store the payload, store the header. A post

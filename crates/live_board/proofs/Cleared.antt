@@ -14,7 +14,7 @@ use Rattle.synic_board.specs.State.{State, processors, slot_of}
 use Rattle.synic_board.specs.Effects.{Outcome, nothing}
 use Rattle.synic_board.specs.Resetting.{withdrawn_ticket, emptied_below, reset}
 use Rattle.synic_board.specs.Step.{step}
-use Rattle.live_pages.specs.Slot.{known}
+use Rattle.live_pages.specs.Words.{known}
 use Rattle.live_pages.specs.declared.access.Access.{Access}
 use Rattle.live_pages.specs.declared.access.Access.TheVariants.{Store}
 use Rattle.live_board.specs.Words.{word_at}

@@ -15,7 +15,7 @@ use Rattle.synic_board.specs.Sound.{HasShape}
 use Rattle.synic_board.specs.Step.{step}
 use Rattle.synic_board.specs.Timers.{ticked}
 use Rattle.synic_board.proofs.Clocks.{ticked_before}
-use Rattle.live_pages.specs.Slot.{known}
+use Rattle.live_pages.specs.Words.{known}
 use Rattle.live_pages.specs.declared.access.Access.{Access}
 use Rattle.live_board.specs.Words.{word_of}
 use Rattle.live_board.specs.Live.{Shadows, IsTicked, all_done, looked_from, marked_from, is_any_due, AreDueDirect}

@@ -5,7 +5,7 @@ use Rattle.std.specs.List.{position_or_len}
 use Rattle.std.proofs.lemmas.Bool.Decides.{nat_tests}
 use mathlib.Core.Bool.{cond}
 use Rattle.gpa_space.specs.Space.{is_mapped_at, overlay_of}
-use Rattle.live_board.specs.Hiding.{HidesOnlyWhatWasSettled}
+use Rattle.live_board.specs.Hiding.{HidesOnlyWhatWasRefreshed}
 
 not_there : (page x : ℕ) → x / 4096 ≢ page → is_mapped_at page x ≡ false
 not_there page x n = let b : (x / 4096 == page) ≡ false = grind (arith, nat_tests) in grind (arith, nat_tests)
@@ -37,7 +37,7 @@ first-is n l o = by (nat_lt n l)
     by true e = cc
     by false e = absurd (cc)
 
-pub hides_only : HidesOnlyWhatWasSettled
+pub hides_only : HidesOnlyWhatWasRefreshed
 hides_only s p k value page o is other apart =
     let f = is_mapped_at page in
     let first : position_or_len f s.registers ≡ o = first-is _ (length s.registers) o is in

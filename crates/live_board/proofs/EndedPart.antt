@@ -17,7 +17,7 @@ use Rattle.synic_board.specs.Ranges.{HasRanges}
 use Rattle.synic_board.specs.Sound.{IsSound, HasShape, PayloadFits}
 use Rattle.synic_board.specs.Step.{step}
 use Rattle.synic_board.proofs.keeping.Placements.{page_of}
-use Rattle.live_pages.specs.Slot.{known, type_of}
+use Rattle.live_pages.specs.Words.{known, type_of}
 use Rattle.live_pages.specs.declared.access.Access.{Access}
 use Rattle.live_board.specs.Words.{word_of}
 use Rattle.live_board.specs.Live.{explained, all_done, AreCareful, IsShown, HasProbed, ProbesIf, AreProbes, NoneQueued, is_waiting, ArePlaced, FindInPage}

@@ -7,7 +7,7 @@ use Rattle.std.proofs.lemmas.Bool.Decides.{nat_tests}
 use Rattle.board_terms.specs.declared.pages.Kind.{Kind}
 use Rattle.board_terms.specs.declared.pages.Kind.TheVariants.{Sim}
 use Rattle.synic_board.specs.State.{State}
-use Rattle.live_pages.specs.Slot.{known, type_of, IsPut}
+use Rattle.live_pages.specs.Words.{known, type_of, IsPut}
 use Rattle.live_pages.specs.declared.access.Access.{Access}
 use Rattle.live_pages.specs.declared.access.Access.TheVariants.{Load, FetchOr, Store}
 use Rattle.live_board.specs.Live.{explained, AreStores, AreCareful, ArePuts}

@@ -5,7 +5,7 @@ use Rattle.board_terms.specs.declared.notices.Notice.{Notice}
 use Rattle.board_terms.specs.declared.pages.Kind.TheVariants.{Sim}
 use Rattle.event_ports.specs.declared.ports.Port.{Port}
 use Rattle.synic_board.specs.State.{State}
-use Rattle.live_pages.specs.Slot.{type_of, is_pending}
+use Rattle.live_pages.specs.Words.{type_of, is_pending}
 use Rattle.live_pages.specs.declared.access.Access.{Access}
 use Rattle.live_pages.specs.declared.access.Access.TheVariants.{Load, FetchOr, Store}
 use Rattle.live_board.specs.Live.{AreReads}

@@ -22,11 +22,11 @@ use Rattle.synic_board.specs.Locations.{Conserves}
 use Rattle.synic_board.specs.Sound.{IsSound, PayloadFits}
 use Rattle.synic_board.proofs.keeping.Wholes.{IsIntact, KeepsMessages, kept_from_sound, sound_from_kept, tickets-conserved, messages-kept, keeps-nothing, messages-after}
 use Rattle.synic_board.proofs.keeping.Steps.{keeps-step}
-use Rattle.live_pages.specs.Slot.{known}
+use Rattle.live_pages.specs.Words.{known}
 use Rattle.live_pages.specs.declared.access.Access.{Access}
 use Rattle.live_pages.specs.declared.access.Access.TheVariants.{Load, FetchOr, Store}
 use Rattle.live_board.specs.Live.{LiveModel, IsLive, IsObserved, number_at, IsShown, IsOwnStore, AreLooks, owner_at, store_of, shown_by, explained, log_of, IsTimed, IsTicked, IsReset, marked_by, explained_after, looked_from, marked_from}
-use Rattle.live_board.specs.Settling.{AreLoads, IsSettled}
+use Rattle.live_board.specs.Refreshing.{AreLoads, IsRefreshed}
 use Rattle.live_board.proofs.Joined.{run-append, same-explained, rest-number, rest-shown, shown-before}
 use Rattle.live_board.proofs.Shown.{with_word, stored-word, still-in}
 
@@ -162,9 +162,9 @@ look-conserves p old now notices h seen =
     kept-by s now.board.state es _ notices
     (fits-all s p Sim es (guest-stores s p Sim seen.news (log_of old p Sim))) h seen.run
 
-pub settle-conserves : (p : ℕ) (old now : LiveModel) (notices : List Notice) → IsSound old.board.state
-    → IsSettled p old now notices → IsSound now.board.state × Conserves old.board.state now.board.state notices
-settle-conserves p old now notices h t =
+pub refresh-conserves : (p : ℕ) (old now : LiveModel) (notices : List Notice) → IsSound old.board.state
+    → IsRefreshed p old now notices → IsSound now.board.state × Conserves old.board.state now.board.state notices
+refresh-conserves p old now notices h t =
     let s : State = old.board.state in
     let ea : List Event = explained s p Sim t.messages (log_of old p Sim) in
     let eb : List Event = explained s p Sief t.flags (log_of old p Sief) in
@@ -275,9 +275,9 @@ look-changes p old now notices seen =
     (page-changes s p Sim seen.news (log_of old p Sim)
     (λ shown. looks-of 16 seen.news (omega arith) (seen.shown shown)) seen.hidden)
 
-pub settle-changes : (p : ℕ) (old now : LiveModel) (notices : List Notice) → IsSettled p old now notices
+pub refresh-changes : (p : ℕ) (old now : LiveModel) (notices : List Notice) → IsRefreshed p old now notices
     → now.board.state ≡ record old.board.state { own = now.board.state.own; slots = now.board.state.slots }
-settle-changes p old now notices t =
+refresh-changes p old now notices t =
     subst (Rest s) (ap (λ (r : Run). r.0) (sym (run-append s ea eb) ∙ t.run))
     (rest-after s mid (run_of mid eb).0 first second)
   where

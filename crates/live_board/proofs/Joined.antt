@@ -13,7 +13,7 @@ use Rattle.synic_board.specs.declared.event.Reply.TheVariants.{Done}
 use Rattle.synic_board.specs.State.{State}
 use Rattle.synic_board.specs.Step.{step}
 use Rattle.synic_board.specs.Run.{Run, run_of, followed_by}
-use Rattle.live_pages.specs.Slot.{known}
+use Rattle.live_pages.specs.Words.{known}
 use Rattle.live_pages.specs.declared.access.Access.{Access}
 use Rattle.live_pages.specs.declared.access.Access.TheVariants.{Load, FetchOr, Store}
 use Rattle.live_board.specs.Live.{number_at, IsShown, all_done, explained, shown_by, MayStore, AreCareful, AreLooks, FindInPage, AreStores}

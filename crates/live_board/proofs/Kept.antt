@@ -9,7 +9,7 @@ use Rattle.synic_board.specs.Delivery.{is_slot_empty}
 use Rattle.synic_board.specs.Ranges.{HasRanges}
 use Rattle.synic_board.specs.Sound.{HasShape}
 use Rattle.synic_board.proofs.keeping.Placements.{page_of}
-use Rattle.live_pages.specs.Slot.{type_of}
+use Rattle.live_pages.specs.Words.{type_of}
 use Rattle.live_board.specs.Live.{is_waiting}
 use Rattle.live_board.specs.Words.{word_of}
 use Rattle.live_board.specs.inside.Parts.{AreKept, IsLeft, Ends, SlotGrows, SlotFills}

@@ -29,7 +29,7 @@ pub mod EndedPart
 pub mod Cleared
 pub mod Shadowed
 pub mod Named
-pub mod Settled
+pub mod Refreshed
 pub mod Covering
 pub mod Signalled
 pub mod Again

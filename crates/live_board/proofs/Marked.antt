@@ -11,7 +11,7 @@ use Rattle.synic_board.specs.declared.event.Event.TheVariants as event
 use Rattle.synic_board.specs.declared.event.Reply.{Reply}
 use Rattle.synic_board.specs.State.{State}
 use Rattle.synic_board.specs.Run.{Run, run_of}
-use Rattle.live_pages.specs.Slot.{known, type_of}
+use Rattle.live_pages.specs.Words.{known, type_of}
 use Rattle.live_pages.specs.declared.access.Access.{Access}
 use Rattle.live_pages.specs.declared.access.Access.TheVariants.{Load, FetchOr, Store}
 use Rattle.live_board.specs.Words.{word_of}

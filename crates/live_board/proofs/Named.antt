@@ -14,13 +14,13 @@ use Rattle.synic_board.specs.declared.event.Event.{Event}
 use Rattle.synic_board.specs.declared.event.Reply.{Reply}
 use Rattle.synic_board.specs.State.{State, BoardModel}
 use Rattle.live_pages.specs.Page.{Page, GuestModel, guest_of}
-use Rattle.live_pages.specs.Slot.{known}
+use Rattle.live_pages.specs.Words.{known}
 use Rattle.board_terms.specs.declared.pages.Kind.TheVariants.{Sim}
 use Rattle.live_board.specs.Acting.{HasLookedAt, HasPlacedAt, AccessesOnly, AccessesOnlyAt}
 use Rattle.live_board.specs.Signals.{HasSetAt}
 use Rattle.live_board.specs.Live.{LiveModel, Shadows, log_of, IsShown, HasProbed, IsLive, IsQuietly, IsTimed, IsTicked, IsReset, IsObserved, guests_of}
 use Rattle.live_board.specs.inside.Pages.{logs_of, names_of}
-use Rattle.live_board.specs.Settling.{IsSettled}
+use Rattle.live_board.specs.Refreshing.{IsRefreshed}
 use Rattle.live_board.specs.inside.Parts.{IsShadow, IsCopied, AreCopied}
 use Rattle.live_board.proofs.Shadowed.{live}
 
@@ -265,8 +265,8 @@ observed-named p notices = record {
   };
 }
 
-pub settled-named : (p : ℕ) (notices : List Notice) → Carries (λ old now. IsSettled p old now notices)
-settled-named p notices = record {
+pub refreshed-named : (p : ℕ) (notices : List Notice) → Carries (λ old now. IsRefreshed p old now notices)
+refreshed-named p notices = record {
   named = λ old now names h. record {
     few = h.few;
     messages = h.messages;

@@ -22,10 +22,10 @@ use Rattle.synic_board.specs.Sound.{IsSound, HasShape}
 use Rattle.synic_board.specs.Delivery.{is_slot_empty}
 use Rattle.synic_board.specs.Posts.{posted}
 use Rattle.synic_board.proofs.keeping.Placements.{page_of}
-use Rattle.live_pages.specs.Slot.{known, type_of, is_pending}
+use Rattle.live_pages.specs.Words.{known, type_of, is_pending}
 use Rattle.live_pages.specs.declared.access.Access.{Access}
 use Rattle.live_pages.specs.declared.access.Access.TheVariants.{Load}
-use Rattle.live_pages.proofs.Slots.{or-set}
+use Rattle.live_pages.proofs.Bits.{or-set}
 use Rattle.live_board.specs.Words.{word_at, word_of}
 use Rattle.live_board.specs.Live.{explained, all_done, AreCareful, IsShown, HasLooked}
 use Rattle.live_board.specs.inside.Parts.{IsShadow, IsWatched, IsFound, IsStep, IsInto, IsPart, IsLooks, IsViewed, Attempts, is_attempted}

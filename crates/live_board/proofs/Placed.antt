@@ -2,7 +2,7 @@
 use Rattle.std.proofs.Common.{◌≡◌, ◌⊎◌, inl, inr, ℕ, zero, suc, ◌+◌, ◌*◌, ◌<◌, List, [], ◌∷◌, ◌++◌, refl, sym, ap, ◌∙◌, subst, arith}
 use Rattle.std.specs.Prelude.{slice_index}
 use Rattle.synic_board.specs.State.{State}
-use Rattle.live_pages.specs.Slot.{IsPut, known}
+use Rattle.live_pages.specs.Words.{IsPut, known}
 use Rattle.live_pages.specs.declared.access.Access.{Access}
 use Rattle.live_pages.specs.declared.access.Access.TheVariants.{Store}
 use Rattle.live_board.specs.Live.{ArePuts, IsStored, IsStoredAnew, slot_word, AreReads, HasPlaced, ArePlaced}

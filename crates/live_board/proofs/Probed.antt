@@ -7,9 +7,9 @@ use Rattle.board_terms.specs.declared.notices.Notice.{Notice}
 use Rattle.board_terms.specs.declared.pages.Kind.TheVariants.{Sim}
 use Rattle.synic_board.specs.State.{State}
 use Rattle.synic_board.specs.Run.{run_of}
-use Rattle.live_pages.specs.Slot.{known, type_of, is_pending}
+use Rattle.live_pages.specs.Words.{known, type_of, is_pending}
 use Rattle.live_pages.specs.declared.access.Access.{Access}
-use Rattle.live_pages.proofs.Slots.{or-set}
+use Rattle.live_pages.proofs.Bits.{or-set}
 use Rattle.live_board.specs.Words.{word_of}
 use Rattle.live_board.specs.Live.{is_waiting, ProbesIf, AreProbes}
 use Rattle.live_board.specs.inside.Parts.{IsShadow, IsLook, IsMark, IsLeft, IsProbed, IsProbing}

@@ -2,7 +2,7 @@
 use Rattle.std.proofs.Common.{◌≡◌, ◌≢◌, ℕ, Bool, true, false, List, [], ◌∷◌, ◌++◌, refl, sym, ap, ◌∙◌, subst, arith}
 use Rattle.std.specs.Prelude.{◌==◌, ◌||◌, not, nat_lt, if◌then◌else◌}
 use Rattle.std.proofs.lemmas.Bool.Decides.{nat_tests}
-use Rattle.live_pages.specs.Slot.{known, header, type_of, is_pending}
+use Rattle.live_pages.specs.Words.{known, header, type_of, is_pending}
 use Rattle.live_pages.specs.declared.access.Turn.{Turn}
 use Rattle.live_pages.specs.declared.access.Turn.TheVariants.{ByHost, ByGuest}
 use Rattle.live_pages.specs.Traces.{memory, accesses, IsHistory, is_of, is_accessed}

@@ -22,7 +22,7 @@ use Rattle.live_pages.specs.declared.access.Access.{Access}
 use Rattle.live_board.specs.Live.{LiveModel, IsLive, IsQuietly, IsOwnStore, has_processor, log_of, all_done, explained, explained_after, looked_from, marked_from}
 use Rattle.board_terms.specs.declared.pages.Owner.{Owner}
 use Rattle.board_terms.specs.declared.pages.Owner.TheVariants as owner
-use Rattle.live_board.specs.Hiding.{IsSettledIf, IsSettledUnder, IsHiding}
+use Rattle.live_board.specs.Hiding.{IsRefreshedIf, IsRefreshedUnder, IsHiding}
 use Rattle.live_board.specs.Acting.{Acts, IsRegisterWrite, IsTimedWrite, IsTimedPaid, IsTickedPaid, IsPaid, ArePaid, IsAccess, IsResetOf, eom_by, written_value}
 use Rattle.live_board.specs.Timers.{is_direct_write}
 use Rattle.live_board.specs.Runs.{Call, AreCalls, IsGuestStore, IsEomIf, HaveEoms, HaveAllEoms, HasBetween, notices_of, IsRunOf}
@@ -231,7 +231,7 @@ both-before s mid now first second a b = record {
       ∙ ap (λ (rs : List Reply). (now, rs, first ++ second)) (sym (done-append a.events b.events));
 }
 
-before-if : (b : Bool) (p : ℕ) (old now : LiveModel) (notices : List Notice) → IsSettledIf b p old now notices
+before-if : (b : Bool) (p : ℕ) (old now : LiveModel) (notices : List Notice) → IsRefreshedIf b p old now notices
     → IsBefore old.board.state now.board.state notices
 before-if true p old now notices h = record {
   events = explained old.board.state p Sim h.messages (log_of old p Sim)
@@ -245,7 +245,7 @@ before-if true p old now notices h = record {
 before-if false p old now notices (same, none) =
     nothing-before old.board.state now.board.state notices (ap (λ (m : LiveModel). m.board.state) same) none
 
-before-under : (o : Owner) (old now : LiveModel) (notices : List Notice) → IsSettledUnder o old now notices
+before-under : (o : Owner) (old now : LiveModel) (notices : List Notice) → IsRefreshedUnder o old now notices
     → IsBefore old.board.state now.board.state notices
 before-under (owner.Sim p) old now notices h = before-if (nat_lt p (processors old.board.state)) p old now notices h
 before-under (owner.Sief p) old now notices h = before-if (nat_lt p (processors old.board.state)) p old now notices h
@@ -261,8 +261,8 @@ of-hiding p value old now event reply notices h =
     let s : State = old.board.state in
     let mid : State = h.under.board.state in
     let b : IsBefore s mid (h.first ++ h.second) = both-before s h.own.board.state mid h.first h.second
-    (before-if (nat_lt p (processors s)) p old h.own h.first h.settled)
-    (before-under (owner_of (space_of h.own.board.state) (page_of value)) h.own h.under h.second h.settled_under) in
+    (before-if (nat_lt p (processors s)) p old h.own h.first h.refreshed)
+    (before-under (owner_of (space_of h.own.board.state) (page_of value)) h.own h.under h.second h.refreshed_under) in
     let one : run_of mid (event ∷ []) ≡ (now.board.state, reply ∷ [], h.last) =
     ap (λ (o : Outcome). (o.0, o.1 ∷ [], o.2 ++ [])) (sym h.performs)
     ∙ ap (λ (ns : List Notice). (now.board.state, reply ∷ [], ns)) (append-nil h.last) in

@@ -20,7 +20,7 @@ use Rattle.synic_board.specs.State.{State, BoardModel, ports_of}
 use Rattle.synic_board.specs.Effects.{Outcome}
 use Rattle.synic_board.specs.Step.{step}
 use Rattle.synic_board.specs.Run.{run_of}
-use Rattle.live_pages.specs.Slot.{known}
+use Rattle.live_pages.specs.Words.{known}
 use Rattle.live_pages.specs.declared.access.Access.{Access}
 use Rattle.live_board.specs.Words.{word_of}
 use Rattle.live_board.specs.Live.{LiveModel, Shadows, IsLive, IsQuietly, IsObserved, IsShown, IsTimed, IsReset, HasProbed, log_of}

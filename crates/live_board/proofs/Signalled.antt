@@ -31,7 +31,7 @@ use Rattle.synic_board.specs.Posts.{with_flag, flagged, signalled_place, signall
 use Rattle.synic_board.specs.Step.{step}
 use Rattle.synic_board.proofs.keeping.Requests.{either}
 use Rattle.live_board.specs.Words.{word_at, word_of}
-use Rattle.live_pages.specs.Slot.{known}
+use Rattle.live_pages.specs.Words.{known}
 use Rattle.live_pages.specs.declared.access.Access.{Access}
 use Rattle.live_pages.specs.declared.access.Access.TheVariants.{Store}
 use Rattle.live_board.specs.Live.{explained, all_done, IsShown}

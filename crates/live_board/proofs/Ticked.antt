@@ -21,7 +21,7 @@ use Rattle.synic_board.specs.Ranges.{HasRanges}
 use Rattle.synic_board.specs.Sound.{IsSound, HasShape}
 use Rattle.synic_board.specs.Step.{step}
 use Rattle.synic_board.proofs.keeping.Wholes.{kept_from_sound}
-use Rattle.live_pages.specs.Slot.{known}
+use Rattle.live_pages.specs.Words.{known}
 use Rattle.live_pages.specs.declared.access.Access.{Access}
 use Rattle.live_board.specs.Words.{word_at, word_of}
 use Rattle.live_board.specs.Live.{number_at, explained, explained_after, all_done, AreCareful, IsShown, AreLooks, AreTimed, looked_from, marked_from, has_processor, finds_empty, ArePlaced}

@@ -32,7 +32,7 @@ use Rattle.synic_board.specs.Sound.{IsSound, HasShape, PayloadFits}
 use Rattle.synic_board.specs.Step.{step}
 use Rattle.synic_board.proofs.keeping.Placements.{page_of}
 use Rattle.synic_board.proofs.keeping.Wholes.{kept_from_sound}
-use Rattle.live_pages.specs.Slot.{known, type_of}
+use Rattle.live_pages.specs.Words.{known, type_of}
 use Rattle.live_pages.specs.declared.access.Access.{Access}
 use Rattle.live_board.specs.Words.{word_at, word_of}
 use Rattle.live_board.specs.Timers.{is_timer_register, is_timer_write}

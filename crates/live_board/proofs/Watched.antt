@@ -9,7 +9,7 @@ use Rattle.gpa_space.specs.Space.{overlay_of}
 use Rattle.synic_board.specs.declared.event.Event.{Event}
 use Rattle.synic_board.specs.State.{State}
 use Rattle.synic_board.specs.Run.{run_of}
-use Rattle.live_pages.specs.Slot.{known}
+use Rattle.live_pages.specs.Words.{known}
 use Rattle.live_pages.specs.declared.access.Access.{Access}
 use Rattle.live_pages.specs.declared.access.Access.TheVariants.{Load, FetchOr}
 use Rattle.live_board.specs.Live.{store_of, all_done, explained, AreCareful, IsShown, FindInPage}

@@ -29,7 +29,7 @@ use Rattle.synic_board.specs.Run.{Run, run_of}
 use Rattle.synic_board.specs.Sound.{IsSound, HasShape, PayloadFits}
 use Rattle.synic_board.specs.Step.{step}
 use Rattle.synic_board.proofs.keeping.Placements.{page_of}
-use Rattle.live_pages.specs.Slot.{known, header, type_of, is_pending}
+use Rattle.live_pages.specs.Words.{known, header, type_of, is_pending}
 use Rattle.live_pages.specs.declared.access.Access.{Access}
 use Rattle.live_pages.specs.declared.access.Access.TheVariants.{Load}
 use Rattle.live_pages.specs.Traces.{is_of, is_accessed}

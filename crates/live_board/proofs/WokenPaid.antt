@@ -9,7 +9,7 @@ use Rattle.synic_board.specs.declared.event.Reply.TheVariants.{Done}
 use Rattle.synic_board.specs.State.{processors}
 use Rattle.synic_board.specs.Ranges.{HasRanges}
 use Rattle.synic_board.specs.Sound.{IsSound, HasShape}
-use Rattle.live_pages.specs.Slot.{header}
+use Rattle.live_pages.specs.Words.{header}
 use Rattle.live_pages.specs.declared.access.Access.{Access}
 use Rattle.live_board.specs.Acting.{IsPaid, IsTimedPaid}
 use Rattle.live_board.specs.Live.{LiveModel, Shadows, IsTimed, has_processor, log_of}

@@ -16,7 +16,7 @@ use Rattle.synic_board.specs.Run.{Run, run_of}
 use Rattle.synic_board.specs.Sound.{IsSound, HasShape}
 use Rattle.synic_board.specs.Step.{step}
 use Rattle.synic_board.proofs.keeping.Wholes.{kept_from_sound}
-use Rattle.live_pages.specs.Slot.{header}
+use Rattle.live_pages.specs.Words.{header}
 use Rattle.live_pages.specs.declared.access.Access.{Access}
 use Rattle.live_pages.specs.Traces.{is_accessed}
 use Rattle.live_board.specs.Live.{LiveModel, Shadows, IsTicked, IsShown, AreMarks, number_at, explained, explained_after, looked_from, marked_from, is_any_due, AreDueDirect, has_processor, log_of}

@@ -36,7 +36,7 @@ use Rattle.synic_board.specs.Sound.{IsSound, HasShape, PayloadFits}
 use Rattle.synic_board.specs.Step.{step}
 use Rattle.synic_board.proofs.keeping.Slots.{overwritten-other}
 use Rattle.synic_board.proofs.keeping.Wholes.{kept_from_sound}
-use Rattle.live_pages.specs.Slot.{known, header, type_of}
+use Rattle.live_pages.specs.Words.{known, header, type_of}
 use Rattle.live_pages.specs.declared.access.Access.{Access}
 use Rattle.live_pages.specs.declared.access.Access.TheVariants.{Load, FetchOr, Store}
 use Rattle.live_pages.specs.Traces.{is_accessed}

@@ -1,6 +1,6 @@
 pub mod Words
 pub mod Live
-pub mod Settling
+pub mod Refreshing
 pub mod Hiding
 pub mod Waking
 pub mod Timers

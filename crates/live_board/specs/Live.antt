@@ -22,7 +22,7 @@ use Rattle.synic_board.specs.Performing.{Performs}
 use Rattle.synic_board.specs.Run.{run_of}
 use Rattle.atomic_table.specs.Seated.{TableId}
 use Rattle.live_pages.specs.Page.{GuestModel, guest_of}
-use Rattle.live_pages.specs.Slot.{known, IsPut, type_of, is_pending, header, pending_mask}
+use Rattle.live_pages.specs.Words.{known, IsPut, type_of, is_pending, header, pending_mask}
 use Rattle.live_pages.specs.declared.access.Access.{Access}
 use Rattle.live_pages.specs.declared.access.Access.TheVariants.{Load, FetchOr, Store}
 use Rattle.live_board.specs.Words.{word_of}

@@ -12,7 +12,7 @@ use Rattle.synic_board.specs.declared.event.Reply.TheVariants.{FlagWasSet, FlagW
 use Rattle.synic_board.specs.State.{State, regs_of, ports_of}
 use Rattle.live_pages.specs.declared.access.Access.{Access}
 use Rattle.live_pages.specs.declared.access.Access.TheVariants.{FetchOr}
-use Rattle.live_pages.specs.Flags.{flag_word, flag_mask}
+use Rattle.live_pages.specs.Words.{flag_word, flag_mask}
 use Rattle.live_board.specs.Live.{LiveModel, IsShown, log_of}
 
 -- the flag that a signal of an open port sets, if it is accepted

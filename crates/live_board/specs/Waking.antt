@@ -3,7 +3,7 @@
 use Rattle.std.specs.Prelude.{◌≡◌, ◌≢◌, ◌⊎◌, ℕ, ◌++◌, Bool, true, false, List, [], ◌∷◌}
 use Rattle.board_terms.specs.declared.pages.Kind.TheVariants.{Sim}
 use Rattle.message_queues.specs.Queues.{queue_of}
-use Rattle.live_pages.specs.Slot.{known, header, type_of, is_pending}
+use Rattle.live_pages.specs.Words.{known, header, type_of, is_pending}
 use Rattle.live_pages.specs.declared.access.Turn.{Turn}
 use Rattle.live_pages.specs.declared.access.Turn.TheVariants.{ByHost, ByGuest}
 use Rattle.live_pages.specs.Traces.{memory, accesses, is_of, is_accessed}

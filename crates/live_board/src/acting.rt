@@ -9,9 +9,9 @@ ghost use Rattle.synic_board.specs.State.{processors, space_of};
 ghost use Rattle.synic_board.specs.Step.{step};
 ghost use Rattle.live_board.specs.Acting.{Acts, IsAccess, IsRegisterWrite, IsTimedWrite, IsTickedPaid, IsPaid, ArePaid};
 ghost use Rattle.live_board.specs.Live.{IsQuietly, IsReset, IsObserved};
-ghost use Rattle.live_board.specs.Settling.{IsSettled};
+ghost use Rattle.live_board.specs.Refreshing.{IsRefreshed};
 ghost use Rattle.live_board.specs.Timers.{timer_of, is_direct_write};
-ghost use Rattle.live_board.specs.Hiding.{IsHiding, IsSettledIf, IsSettledUnder};
+ghost use Rattle.live_board.specs.Hiding.{IsHiding, IsRefreshedIf, IsRefreshedUnder};
 ghost use Rattle.live_board.specs.inside.Kinds.{IsTimerWriteBy, owes_nothing, accessed_at, is_quiet_register};
 
 use crate::live::LiveBoard;
@@ -36,7 +36,7 @@ impl LiveBoard {
     /// owe one, and they access no live page if the timers are in direct mode.
     ///
     /// `Post`, `Signal`, `Reset` and an EOM are as `post`, `signal`, `reset` and `end_message` describe. A
-    /// write of SIMP or SIEFP settles the live pages that it may hide first. A load or a store at a page
+    /// write of SIMP or SIEFP refreshes the live pages that it may hide first. A load or a store at a page
     /// where the guest sees a live page is refused as `Elsewhere`: the caller makes it in the live page. No
     /// other event accesses a live page. Inlined, so that a caller that constructs one kind of event has the
     /// code of that kind only, and the event is not in memory.
@@ -113,13 +113,13 @@ impl LiveBoard {
     /// Loads each word of both live pages of a processor that the guest sees, the message page first, so
     /// that the board's own pages have what the guest stored: for an image of the board. Replaces `notices`
     /// by those of the guest's stores that were found. Requires that the processor is on the board.
-    pub fn settle(&mut self, vp: Vp, notices: &mut LiveNotices)
+    pub fn refresh(&mut self, vp: Vp, notices: &mut LiveNotices)
         requires { vp < processors self.old.board.state }
-        ensures { IsSettled vp self.old self.new notices.new }
+        ensures { IsRefreshed vp self.old self.new notices.new }
     {
         let LiveNotices { few, many } = notices;
         many.clear();
-        self.settle_own(vp, few);
+        self.refresh_own(vp, few);
     }
 
     /// Performs an event that is neither a tick nor a write of a register.
@@ -180,7 +180,7 @@ impl LiveBoard {
     }
 
     /// Performs a write of SIMP or SIEFP. The live pages of the processor, and of the one whose page the
-    /// guest sees at the new page number, are settled first: the guest may not see them afterwards.
+    /// guest sees at the new page number, are refreshed first: the guest may not see them afterwards.
     #[inline(never)]
     fn write_page(
         &mut self,
@@ -195,34 +195,34 @@ impl LiveBoard {
         ensures page { IsHiding vp value self.old (Write vp register value) self.new result notices.new }
         ensures empty { part.new ≡ [] }
     {
-        self.settle_if(vp, part);
+        self.refresh_if(vp, part);
         move_to(part, notices);
-        self.settle_under(value / 4096, part);
+        self.refresh_under(value / 4096, part);
         move_to(part, notices);
         let reply = self.write_after(vp, register, value, part);
         move_to(part, notices);
         reply
     }
 
-    /// Settles the live pages of a processor, if it is on the board.
-    fn settle_if(&mut self, vp: u8, notices: &mut Notices)
-        ensures settled { IsSettledIf (nat_lt vp (processors self.old.board.state)) vp self.old self.new notices.new }
+    /// Refreshes the live pages of a processor, if it is on the board.
+    fn refresh_if(&mut self, vp: u8, notices: &mut Notices)
+        ensures refreshed { IsRefreshedIf (nat_lt vp (processors self.old.board.state)) vp self.old self.new notices.new }
         ensures few { length notices.new ≤ 32 }
     {
         notices.clear();
         if let Some(vp) = self.on_board(vp) {
-            self.settle_own(vp, notices);
+            self.refresh_own(vp, notices);
         }
     }
 
-    /// Settles the live pages of the processor whose page the guest sees at a page number, if there is one.
-    fn settle_under(&mut self, page: u64, notices: &mut Notices)
-        ensures settled { IsSettledUnder (owner_of (space_of self.old.board.state) page) self.old self.new notices.new }
+    /// Refreshes the live pages of the processor whose page the guest sees at a page number, if there is one.
+    fn refresh_under(&mut self, page: u64, notices: &mut Notices)
+        ensures refreshed { IsRefreshedUnder (owner_of (space_of self.old.board.state) page) self.old self.new notices.new }
         ensures few { length notices.new ≤ 32 }
     {
         match self.board().owner(page) {
-            Owner::Sim(vp) => self.settle_if(vp.number(), notices),
-            Owner::Sief(vp) => self.settle_if(vp.number(), notices),
+            Owner::Sim(vp) => self.refresh_if(vp.number(), notices),
+            Owner::Sief(vp) => self.refresh_if(vp.number(), notices),
             Owner::Guest | Owner::Nothing => notices.clear(),
         }
     }

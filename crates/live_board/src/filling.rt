@@ -1,7 +1,7 @@
 // Writes what the board did to a slot into the live page.
 ghost use Rattle.std.specs.Prelude.{◌≡◌, ℕ, ◌<◌, ◌≤◌, ◌+◌, ◌*◌, slice_index};
 ghost use Rattle.synic_board.specs.State.{processors};
-ghost use Rattle.live_pages.specs.Slot.{known};
+ghost use Rattle.live_pages.specs.Words.{known};
 ghost use Rattle.live_board.specs.inside.Parts.{AreSlotWords, IsFilled};
 
 use crate::words::word_at;

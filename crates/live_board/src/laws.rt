@@ -19,13 +19,13 @@ ghost use Rattle.synic_board.specs.Locations.{Conserves};
 ghost use Rattle.synic_board.specs.Sound.{IsSound, HasShape, PayloadFits};
 ghost use Rattle.live_pages.specs.declared.access.Access.{Access};
 ghost use Rattle.live_pages.specs.Headers.{Slot, Step, are_steps, led_to, is_stuck};
-ghost use Rattle.live_pages.specs.Slot.{known, header};
+ghost use Rattle.live_pages.specs.Words.{known, header};
 ghost use Rattle.live_pages.specs.declared.access.Turn.{Turn};
 ghost use Rattle.live_pages.specs.Traces.{IsHistory, accesses, memory};
 ghost use Rattle.live_board.specs.Acting.{HasLookedAt, HasProbedAt, IsTimedPaid};
-ghost use Rattle.live_board.specs.Hiding.{HidesOnlyWhatWasSettled};
+ghost use Rattle.live_board.specs.Hiding.{HidesOnlyWhatWasRefreshed};
 ghost use Rattle.live_board.specs.Runs.{Call, AreCalls, IsRunOf, notices_of};
-ghost use Rattle.live_board.specs.Settling.{IsSettled};
+ghost use Rattle.live_board.specs.Refreshing.{IsRefreshed};
 ghost use Rattle.live_board.specs.Timers.{is_timer_write};
 ghost use Rattle.live_board.specs.Waking.{IsUntouched, LeavesMarked, LeavesNewMarked, LeavesMarkedUnlessOwed, IsLeftMarked, WasMarked, MayFollow};
 ghost use Rattle.live_board.specs.Live.{LiveModel, Shadows, IsLive, IsQuietly, IsTimed, IsTicked, IsReset, IsObserved, IsOwnStore, IsStored, has_processor, explained, explained_after};
@@ -102,21 +102,21 @@ pub fn a_look_changes_only_pages()
 {}
 
 /// The same for all words of both pages of a processor.
-pub fn a_settle_conserves_messages()
+pub fn a_refresh_conserves_messages()
     ensures { (p : ℕ) (old now : LiveModel) (notices : List Notice) → IsSound old.board.state
-        → IsSettled p old now notices → IsSound now.board.state × Conserves old.board.state now.board.state notices }
+        → IsRefreshed p old now notices → IsSound now.board.state × Conserves old.board.state now.board.state notices }
 {}
 
 /// All words of both pages of a processor change own pages and the tickets in slots, and nothing else.
-pub fn a_settle_changes_only_pages()
-    ensures { (p : ℕ) (old now : LiveModel) (notices : List Notice) → IsSettled p old now notices
+pub fn a_refresh_changes_only_pages()
+    ensures { (p : ℕ) (old now : LiveModel) (notices : List Notice) → IsRefreshed p old now notices
         → now.board.state ≡ record old.board.state { own = now.board.state.own; slots = now.board.state.slots } }
 {}
 
-/// A write of SIMP or SIEFP hides no live page but those that it settles first: what the guest sees of other
+/// A write of SIMP or SIEFP hides no live page but those that it refreshes first: what the guest sees of other
 /// overlays stays.
-pub fn a_write_hides_only_what_was_settled()
-    ensures { HidesOnlyWhatWasSettled }
+pub fn a_write_hides_only_what_was_refreshed()
+    ensures { HidesOnlyWhatWasRefreshed }
 {}
 
 /// A whole run: whatever calls of `perform` a host makes, and whatever a guest stores meanwhile, they are a

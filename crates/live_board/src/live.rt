@@ -15,7 +15,7 @@ ghost use Rattle.live_pages.specs.Page.{guest_of};
 ghost use Rattle.live_pages.specs.Traces.{IsGuestLoad, IsGuestStore};
 ghost use Rattle.live_board.specs.Live.{guests_of, IsGuestOf, IsShown, HasLooked, HasProbed, NoneQueued, log_of, IsLive, IsQuietly, IsTimed, IsTicked, IsReset, IsObserved, Shadows};
 ghost use Rattle.live_board.specs.inside.Pages.{logs_of, names_of};
-ghost use Rattle.live_board.specs.Settling.{IsSettled};
+ghost use Rattle.live_board.specs.Refreshing.{IsRefreshed};
 ghost use Rattle.live_board.specs.Timers.{is_timer_write, timer_of, is_direct_write};
 ghost use Rattle.live_board.specs.inside.Kinds.{IsTimerWriteBy, is_eom, eom_of};
 ghost use Rattle.live_board.specs.inside.Parts.{IsShadow, IsCopied, IsStep, IsUnseen};
@@ -29,7 +29,7 @@ use crate::passing::is_shown;
 use crate::performing::perform_write;
 use crate::posting::post_to;
 use crate::resetting::{clear, reset_messages};
-use crate::settling::settle_page;
+use crate::refreshing::refresh_page;
 use crate::signalling::{flag_of, signal_shown, signal_to};
 use crate::ticking::{are_all_direct, is_any_due, tick_from, tick_now};
 use crate::timing::{is_direct, time_posted, timed_by};
@@ -536,9 +536,9 @@ impl LiveBoard {
     }
 
     /// Loads each word of both live pages of a processor that the guest sees, the message page first.
-    pub(crate) fn settle_own(&mut self, vp: Vp, notices: &mut Notices)
+    pub(crate) fn refresh_own(&mut self, vp: Vp, notices: &mut Notices)
         requires { vp < processors self.old.board.state }
-        ensures { IsSettled vp self.old self.new notices.new }
+        ensures { IsRefreshed vp self.old self.new notices.new }
     {
         let LiveBoard {
             board,
@@ -548,9 +548,9 @@ impl LiveBoard {
         board.facts();
         notices.clear();
         let sim = &mut pages[index_of(vp, Kind::Sim)];
-        settle_page(board, sim, vp, Kind::Sim, scratch, notices);
+        refresh_page(board, sim, vp, Kind::Sim, scratch, notices);
         let sief = &mut pages[index_of(vp, Kind::Sief)];
-        settle_page(board, sief, vp, Kind::Sief, scratch, notices);
+        refresh_page(board, sief, vp, Kind::Sief, scratch, notices);
     }
 
     /// What holds between calls: each word of the board's own pages is what the host last found or wrote in
@@ -566,7 +566,7 @@ impl LiveBoard {
     }
 
     /// The board, without its live pages.
-    pub fn into_board(self) -> Board
+    pub(crate) fn alone(self) -> Board
         ensures { result ≡ self.board }
     {
         let LiveBoard { board, .. } = self;

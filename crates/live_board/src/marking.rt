@@ -2,7 +2,7 @@
 ghost use Rattle.std.specs.Prelude.{◌≡◌, ◌≢◌, ◌⊎◌, ℕ, ◌<◌, ◌≤◌, ◌+◌, ◌*◌, ◌%◌, slice_index, length};
 ghost use Rattle.board_terms.specs.declared.pages.Kind.TheVariants.{Sim};
 ghost use Rattle.synic_board.specs.State.{processors};
-ghost use Rattle.live_pages.specs.Slot.{known, type_of};
+ghost use Rattle.live_pages.specs.Words.{known, type_of};
 ghost use Rattle.live_board.specs.Words.{word_of};
 ghost use Rattle.live_board.specs.Live.{IsShown};
 ghost use Rattle.live_board.specs.inside.Parts.{MayBeMarked, IsMarked, IsMarking};

@@ -3,7 +3,7 @@ ghost use Rattle.std.specs.Prelude.{◌≡◌, ◌≢◌, ◌<◌, ◌↔◌, �
 ghost use Rattle.board_terms.specs.declared.pages.Owner.TheVariants.{Nothing};
 ghost use Rattle.gpa_space.specs.Space.{overlay_of, owner_of};
 ghost use Rattle.synic_board.specs.State.{processors, space_of};
-ghost use Rattle.live_pages.specs.Slot.{known};
+ghost use Rattle.live_pages.specs.Words.{known};
 ghost use Rattle.live_board.specs.Live.{number_at, IsShown};
 ghost use Rattle.live_board.specs.Words.{word_of};
 ghost use Rattle.live_board.specs.inside.Parts.{IsPassedOn, IsLook, IsMark};

@@ -4,7 +4,7 @@ ghost use Rattle.board_terms.specs.declared.pages.Kind.TheVariants.{Sim};
 ghost use Rattle.event_ports.specs.Ports.{port_at};
 ghost use Rattle.synic_board.specs.declared.event.Event.TheVariants.{Post};
 ghost use Rattle.synic_board.specs.State.{processors, ports_of};
-ghost use Rattle.live_pages.specs.Slot.{known, type_of, is_pending};
+ghost use Rattle.live_pages.specs.Words.{known, type_of, is_pending};
 ghost use Rattle.live_board.specs.Words.{word_of};
 ghost use Rattle.live_board.specs.Live.{IsShown, HasLooked, HasPlaced, slot_word};
 ghost use Rattle.live_board.specs.inside.Parts.{IsShadow, IsFound, IsStep, IsInto, IsPart};

@@ -1,7 +1,7 @@
 // Probes of the message slots of a live page before an EOM.
 ghost use Rattle.std.specs.Prelude.{◌≡◌, ◌<◌, ◌*◌, [], true, false, length};
 ghost use Rattle.board_terms.specs.declared.pages.Kind.TheVariants.{Sim};
-ghost use Rattle.live_pages.specs.Slot.{known};
+ghost use Rattle.live_pages.specs.Words.{known};
 ghost use Rattle.synic_board.specs.State.{processors};
 ghost use Rattle.live_board.specs.Words.{word_of};
 ghost use Rattle.live_board.specs.Live.{IsShown, NoneQueued, is_waiting};

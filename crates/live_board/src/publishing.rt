@@ -1,7 +1,7 @@
 // Brings a message page up to date after an event.
 ghost use Rattle.std.specs.Prelude.{◌≡◌, ℕ, ◌<◌, ◌+◌, ◌*◌, slice_index, length};
 ghost use Rattle.synic_board.specs.State.{processors};
-ghost use Rattle.live_pages.specs.Slot.{known};
+ghost use Rattle.live_pages.specs.Words.{known};
 ghost use Rattle.live_board.specs.Words.{word_of};
 ghost use Rattle.live_board.specs.inside.Parts.{IsFilledFrom, IsPublished, AreKept};
 

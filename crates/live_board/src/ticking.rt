@@ -4,7 +4,7 @@ ghost use Rattle.stimer_bank.specs.Bank.{timer_in};
 ghost use Rattle.stimer_bank.specs.Timer.{is_due, is_direct};
 ghost use Rattle.synic_board.specs.declared.event.Event.TheVariants.{Tick};
 ghost use Rattle.synic_board.specs.State.{processors, bank_of};
-ghost use Rattle.live_pages.specs.Slot.{known};
+ghost use Rattle.live_pages.specs.Words.{known};
 ghost use Rattle.live_board.specs.Live.{is_any_due, AreDueDirect};
 ghost use Rattle.live_board.specs.inside.Pages.{logs_of, names_of};
 ghost use Rattle.live_board.specs.inside.Parts.{IsShadow, IsStep, IsFirst, IsFirstAt, IsFinished, IsTickFrom, WordsGrow, AreKept};

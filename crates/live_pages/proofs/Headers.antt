@@ -5,7 +5,7 @@ use mir.Syntax.{w64}
 use Rattle.std.specs.Int.Bits.{or_zero_r}
 use Rattle.std.proofs.lemmas.Nat.{or_mod}
 use Rattle.std.proofs.lemmas.Nat.Bits.{bit_at_set_same}
-use Rattle.live_pages.specs.Slot.{type_of, is_pending, pending_mask}
+use Rattle.live_pages.specs.Words.{type_of, is_pending, pending_mask}
 use Rattle.live_pages.specs.Protocol as protocol
 use Rattle.live_pages.specs.Headers.{Slot, Step, is_occupied, may, after, are_steps, led_to, start, is_stuck, NoWakeUpIsMissed, posts, looks, skips, marks, fills, clears, drains, sees, ends}
 use Rattle.live_pages.proofs.Protocol.{kept, preserved, never_stuck}

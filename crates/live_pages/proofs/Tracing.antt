@@ -16,7 +16,7 @@ use Rattle.std.proofs.Common.{◌⊎◌, inl, inr}
 use Rattle.std.proofs.Math.Nat.{max-eq_left, max-eq_right}
 use Rattle.std.proofs.lemmas.Nat.Bits.{bit_at_or, bit_at-lt}
 use Rattle.std.proofs.lemmas.List.Elements.{All-head, All-tail, All-cons, All-nil}
-use Rattle.live_pages.specs.Slot.{known}
+use Rattle.live_pages.specs.Words.{known}
 use Rattle.live_pages.specs.Traces.{memory, accesses, writes, hosts_turns, Finds, IsHistory, IsTraced, IsGuestLoad, IsGuestStore, AnybodyMayWrite, AreOwn, AGuestThatWritesNothingIsNotSeen, Leaves, ASignalledFlagStays}
 use Rattle.live_pages.specs.inside.Open.{IsOpen, Fits, host_view, guest_view, both_view, affirmed_as, loaded_as, ored_as, stored_as, guest_loaded_as, guest_stored_as}
 use Rattle.live_pages.proofs.Seats.{hosts_step, guests_step, opens_both}

@@ -1,6 +1,6 @@
 -- The protocol of a slot on its header, one word of memory: each step is an access of the host or of the guest.
 use Rattle.std.specs.Prelude.{◌≡◌, ℕ, suc, ◌-◌, ◌==◌, Bool, true, false, not, ◌&&◌, nat_lt, List, [], ◌∷◌, bit_or, if◌then◌else◌}
-use Rattle.live_pages.specs.Slot.{type_of, is_pending, pending_mask}
+use Rattle.live_pages.specs.Words.{type_of, is_pending, pending_mask}
 use Rattle.live_pages.specs.Protocol.{HostAt, GuestAt, host_is, guest_is, one_less, idle, looking, marking, filling, resting, cleared, ending}
 
 abbrev pub is_occupied : ℕ → Bool

@@ -4,16 +4,13 @@
 #![tactic(auto)]
 
 mod access;
-mod flags;
 mod laws;
 mod lies;
 mod page;
-mod slot;
 
 pub use access::{Access, Turn};
 pub use laws::{
     a_guest_that_writes_nothing_is_not_seen, a_signalled_flag_stays, anybody_may_write,
     each_precaution_is_needed, no_wake_up_is_missed, no_wake_up_is_missed_in_memory,
 };
-pub use page::{Guest, LivePage, View, WORDS};
-pub use slot::{Attempt, Probe, SLOT_WORDS};
+pub use page::{Guest, LivePage, SLOT_WORDS, View, WORDS};

@@ -2,7 +2,7 @@
 ghost use Rattle.std.specs.Prelude.{◌≡◌, ◌<◌, [], ◌∷◌, IfOk};
 ghost use Rattle.live_pages.specs.declared.access.Access.TheVariants.{Load, FetchOr, Store};
 ghost use Rattle.live_pages.specs.Page.{page_of, guest_of, with_access};
-ghost use Rattle.live_pages.specs.Slot.{IsUpdate, IsPut};
+ghost use Rattle.live_pages.specs.Words.{IsUpdate, IsPut};
 ghost use Rattle.live_pages.specs.Traces.{IsGuestStore, IsGuestLoad};
 
 use crate::access::{Access, Turn};
@@ -13,6 +13,10 @@ use std::marker::Model;
 
 /// The number of words of a page, each of 64 bits.
 pub const WORDS: usize = 512;
+
+/// The number of words of a message slot: the header, with the type and the flags in its first word,
+/// and the payload.
+pub const SLOT_WORDS: usize = 32;
 
 /// What a seat knows. Ghost.
 pub struct View {

@@ -1,6 +1,6 @@
 // The scale and the offset of a reference TSC page.
-ghost use Rattle.std.specs.Prelude.{◌≡◌, ◌↔◌, ◌≤◌, IfSome, None};
-ghost use Rattle.reference_tsc.specs.Page.{units, elapsed, scale_of, time_of};
+ghost use Rattle.std.specs.Prelude.{◌≡◌, ◌↔◌, ◌<◌, ◌≤◌, ◌^◌, IfSome, None};
+ghost use Rattle.reference_tsc.specs.Page.{units, elapsed, scale_of, time_of, IsFirstWith};
 
 /// Units of reference time in a second: each has 100 ns.
 pub const UNITS: u64 = 10_000_000;
@@ -20,6 +20,20 @@ fn elapsed(scale: u64, tsc: u64) -> u64
     ensures { result ≡ elapsed scale tsc }
 {
     (u128::from(tsc) * u128::from(scale) >> 64) as u64
+}
+
+/// The first TSC at which at least one unit has passed.
+fn first_of(scale: u128, passed: u128) -> Option<u64>
+    requires scale { (0 < scale) × (scale < 2 ^ 64) }
+    requires passed { (0 < passed) × (passed < 2 ^ 64) }
+    ensures { IsFirstWith scale passed result }
+{
+    let ticks = ((passed << 64) - 1) / scale + 1;
+    if ticks >> 64 == 0 {
+        Some(ticks as u64)
+    } else {
+        None
+    }
 }
 
 impl TscPage {
@@ -42,6 +56,20 @@ impl TscPage {
         ensures { result ≡ time_of self.now tsc }
     {
         elapsed(self.scale, tsc).wrapping_add(self.offset)
+    }
+
+    /// The first TSC at which that many units have passed since it was 0, before the offset is added; `None` if a
+    /// TSC of 64 bits never gets there.
+    pub fn first_with(&self, passed: u64) -> Option<u64>
+        ensures { IsFirstWith self.now.scale passed result }
+    {
+        if passed == 0 {
+            return Some(0);
+        }
+        if self.scale == 0 {
+            return None;
+        }
+        first_of(u128::from(self.scale), u128::from(passed))
     }
 
     /// The page of a guest that continues: the same scale, and the time is `time` when the TSC is

@@ -82,9 +82,9 @@ fn observe(live: &mut LiveBoard, vp: Vp, notices: &mut LiveNotices) {
 }
 
 /// Loads all words of the pages of a processor that is on the board.
-fn settle(live: &mut LiveBoard, vp: Vp, notices: &mut LiveNotices) {
+fn refresh(live: &mut LiveBoard, vp: Vp, notices: &mut LiveNotices) {
     if vp.number() < live.board().processors() {
-        live.settle(vp, notices);
+        live.refresh(vp, notices);
     }
 }
 
@@ -344,12 +344,12 @@ fn an_access_of_a_live_page_is_the_callers(rt: HostRuntime) {
     assert_eq!(rt; next, Some(0));
 }
 
-/// A post and a signal, and what the board's pages have of them after `settle`.
-fn settle_a_post(rt: &impl Abort, live: &mut LiveBoard, notices: &mut LiveNotices) {
+/// A post and a signal, and what the board's pages have of them after `refresh`.
+fn refresh_after_a_post(rt: &impl Abort, live: &mut LiveBoard, notices: &mut LiveNotices) {
     let vp = Vp::new(0).unwrap();
     assert_eq!(rt; live.post(3, 1, b"a", notices), Reply::Accepted(0));
     assert_eq!(rt; live.signal(4, 7, notices), Reply::FlagWasClear);
-    settle(live, vp, notices);
+    refresh(live, vp, notices);
     assert_eq!(rt; notices.as_slice().len(), 0);
     let Some(page) = live.board().own_page(vp, Kind::Sim) else {
         panic!(rt; "no page")
@@ -359,9 +359,9 @@ fn settle_a_post(rt: &impl Abort, live: &mut LiveBoard, notices: &mut LiveNotice
 }
 
 #[test]
-fn a_settle_finds_what_the_host_stored(rt: HostRuntime) {
+fn a_refresh_finds_what_the_host_stored(rt: HostRuntime) {
     let next = played(rt.alloc(), ported, |live, notices| {
-        settle_a_post(&rt, live, notices)
+        refresh_after_a_post(&rt, live, notices)
     });
     assert_eq!(rt; next, Some(1));
 }

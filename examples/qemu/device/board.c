@@ -80,14 +80,15 @@ static void collect(void)
 
 static synicboard_reply perform(const synicboard_event *event)
 {
-    synicboard_live_reply live = synicboard_act_live(&board, event);
+    synicboard_reply reply = synicboard_perform(&board, event);
+    uint64_t eoms = synicboard_eoms(&board);
     events++;
-    synic_log_event(event, &live.reply);
-    if (live.reply.notices != 0)
+    synic_log_event(event, &reply);
+    if (reply.notices != 0)
         handle_notices();
-    synic_log_eoms(live.eoms);
+    synic_log_eoms(eoms);
     collect();
-    return live.reply;
+    return reply;
 }
 
 static void tick_to(uint64_t moment)

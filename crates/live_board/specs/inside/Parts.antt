@@ -19,14 +19,14 @@ use Rattle.synic_regs.specs.declared.register.Register.TheVariants.{Eom}
 use Rattle.synic_regs.specs.Registers.{register_of}
 use Rattle.synic_board.specs.declared.event.Reply.{Reply}
 use Rattle.board_terms.specs.declared.pages.Kind.TheVariants.{Sim, Sief}
-use Rattle.live_pages.specs.Slot.{known, type_of, is_pending}
+use Rattle.live_pages.specs.Words.{known, type_of, is_pending}
 use Rattle.live_pages.specs.declared.access.Access.{Access}
 use Rattle.live_pages.specs.declared.access.Access.TheVariants.{Load, FetchOr}
 use Rattle.live_board.specs.Timers.{is_timer_register}
 use Rattle.std.specs.Option.{option_map_or}
 use Rattle.live_board.specs.Signals.{signalled_flag}
 use Rattle.live_board.specs.Words.{word_of}
-use Rattle.live_board.specs.Settling.{AreLoads, AreAllLoads}
+use Rattle.live_board.specs.Refreshing.{AreLoads, AreAllLoads}
 use Rattle.live_pages.specs.Page.{Page, GuestModel, guest_of}
 use Rattle.live_board.specs.Live.{guests_of, store_of, explained, all_done, AreCareful, HasLooked, AreReads, ArePlaced, ArePuts, IsStoredAnew, AreLooks, AreStores, AreProbes, IsProbe, is_waiting, IsShown, explained_after, AreMarks, finds_empty, AreTimed, AreDueDirect, looked_from, marked_from, has_processor, AreClears, FindInPage}
 use Rattle.live_board.specs.inside.Pages.{logs_of, names_of}

@@ -12,5 +12,6 @@ returns c = inl record {
   encoded = c.encoded.ensures;
   replied = c.reply_to_c-2.ensures;
   notices = c.forward.ensures.notices;
+  eoms = c.forward.ensures.eoms;
   pages = c.forward.ensures.pages;
 }

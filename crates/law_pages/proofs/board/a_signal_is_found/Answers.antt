@@ -4,7 +4,7 @@ use Rattle.std.proofs.lemmas.List.Elements.{All-nil}
 use Rattle.std.proofs.lemmas.Nat.Bits.{bit_at-pow_same}
 use Rattle.board_terms.specs.declared.pages.Kind.TheVariants.{Sief}
 use Rattle.event_ports.specs.declared.ports.Port.{Port}
-use Rattle.live_pages.specs.Flags.{flag_word, flag_mask}
+use Rattle.live_pages.specs.Words.{flag_word, flag_mask}
 use Rattle.live_pages.specs.Traces.{memory, hosts_turns}
 use Rattle.live_pages.specs.declared.access.Access.{Access}
 use Rattle.live_pages.specs.declared.access.Access.TheVariants.{FetchOr}

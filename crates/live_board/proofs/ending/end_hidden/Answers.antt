@@ -1,6 +1,6 @@
 use Rattle.synic_board.specs.State.{State}
 use Rattle.std.proofs.Common.{◌*◌, ap, arith}
-use Rattle.live_pages.specs.Slot.{type_of}
+use Rattle.live_pages.specs.Words.{type_of}
 use Rattle.live_board.proofs.EndedPart.{eom-on, eom-ends, eom-stays, part-ended-hidden}
 use Rattle.live_board.proofs.Kept.{kept-ended}
 use Rattle.live_board.proofs.ending.end_hidden.Goals as goal

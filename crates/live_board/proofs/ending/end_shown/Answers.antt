@@ -1,6 +1,6 @@
 use Rattle.synic_board.specs.State.{State}
 use Rattle.std.proofs.Common.{inl, ◌*◌, sym, ap, ◌∙◌, arith}
-use Rattle.live_pages.specs.Slot.{type_of}
+use Rattle.live_pages.specs.Words.{type_of}
 use Rattle.live_board.specs.Live.{is_waiting}
 use Rattle.live_board.specs.Words.{word_of}
 use Rattle.live_board.proofs.EndedPart.{rest-eom, eom-on, eom-ends, eom-stays, part-ended, has-probed}

@@ -1,5 +1,5 @@
 use Rattle.std.proofs.Common.{rules, ◌≡◌, ◌+◌, ◌*◌, ◌∷◌, get_or, arith, ap, ◌∙◌, subst, refl}
-use Rattle.live_pages.specs.Slot.{IsPut}
+use Rattle.live_pages.specs.Words.{IsPut}
 use Rattle.live_pages.specs.declared.access.Access.TheVariants.{Store}
 use Rattle.live_board.specs.inside.Parts.{IsFilling}
 use Rattle.live_board.proofs.Filled.{filling-start, filling-put, filled-store, filled-none}

@@ -1,6 +1,6 @@
 use Rattle.std.proofs.Common.{◌≡◌, ℕ, ◌<◌, ◌*◌, []}
 use Rattle.live_pages.specs.Page.{guest_of}
-use Rattle.live_pages.specs.Slot.{known}
+use Rattle.live_pages.specs.Words.{known}
 use Rattle.live_board.specs.Words.{word_at}
 use Rattle.live_board.proofs.live.copy_page.Given as goal
 

@@ -1,7 +1,7 @@
 use Rattle.std.proofs.Common.{rules, ◌≡◌, ◌≢◌, ◌*◌, ◌^◌, ◌<◌, ◌∷◌, sym, ap, ◌∙◌, subst, arith}
 use Rattle.std.specs.Prelude.{bit_or}
 use Rattle.board_terms.specs.declared.pages.Kind.TheVariants.{Sim}
-use Rattle.live_pages.specs.Slot.{type_of}
+use Rattle.live_pages.specs.Words.{type_of}
 use Rattle.live_pages.specs.declared.access.Access.TheVariants.{FetchOr}
 use Rattle.live_board.specs.Words.{word_of}
 use Rattle.live_board.specs.inside.Parts.{IsPassedOn, IsMarked}

@@ -1,6 +1,6 @@
 use Rattle.std.proofs.Common.{rules, ◌≡◌, inl, inr, ◌*◌, ◌<◌, true, false, subst}
 use Rattle.board_terms.specs.declared.pages.Kind.TheVariants.{Sim}
-use Rattle.live_pages.specs.Slot.{type_of, is_pending}
+use Rattle.live_pages.specs.Words.{type_of, is_pending}
 use Rattle.live_board.specs.inside.Parts.{IsLook, IsMark, is_attempted}
 use Rattle.live_board.proofs.Found.{found-one, found-two}
 use Rattle.live_board.proofs.posting.find_header.Goals.{then-is_empty-via-then-is_empty, then-is_empty-via-else-is_empty+then-is_pending, then-is_empty-via-else-is_empty+else-is_pending+then-not-is_attempted}

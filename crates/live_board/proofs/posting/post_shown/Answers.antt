@@ -1,6 +1,6 @@
 use Rattle.std.proofs.Common.{rules, ◌≡◌, ◌≢◌, ◌++◌, sym, ap, ◌∙◌, subst, Some}
 use Rattle.event_ports.specs.Ports.{port_at}
-use Rattle.live_pages.specs.Slot.{type_of}
+use Rattle.live_pages.specs.Words.{type_of}
 use Rattle.synic_board.specs.State.{State, ports_of}
 use Rattle.live_board.specs.inside.Parts.{IsFound}
 use Rattle.live_board.proofs.Part.{made, part-kept, part-filled, left-type, header-bytes, looked-more}

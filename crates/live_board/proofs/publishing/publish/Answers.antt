@@ -1,5 +1,5 @@
 use Rattle.std.proofs.Common.{rules, ◌≡◌, ◌≢◌, ◌⊎◌, inl, inr, ◌+◌, ◌*◌, get_or, false, true, arith, subst, sym, refl, ◌∙◌}
-use Rattle.live_pages.specs.Slot.{type_of}
+use Rattle.live_pages.specs.Words.{type_of}
 use Rattle.live_pages.specs.Page.{Page}
 use Rattle.live_board.specs.inside.Parts.{IsFilledFrom, IsPublished}
 use Rattle.live_board.proofs.Published.{publish-start, publish-skip, publish-more}

@@ -2,7 +2,7 @@ use Rattle.std.proofs.Common.{rules, ◌≡◌, ◌<◌, ◌+◌, ◌-◌, ◌*�
 use Rattle.synic_board.specs.declared.event.Event.TheVariants.{Tick}
 use Rattle.synic_board.specs.State.{State, processors}
 use Rattle.std.proofs.lemmas.List.{get_or-set_same}
-use Rattle.live_pages.specs.Slot.{known}
+use Rattle.live_pages.specs.Words.{known}
 use Rattle.live_pages.specs.Page.{Page}
 use Rattle.live_pages.specs.declared.access.Access.{Access}
 use Rattle.live_board.specs.Live.{AreDueDirect}

@@ -2,7 +2,7 @@ use Rattle.std.proofs.Common.{rules, ◌≡◌, ◌≢◌, ◌*◌, List, [], ge
 use Rattle.std.proofs.lemmas.List.{get_or-set_other}
 use Rattle.synic_board.specs.State.{processors}
 use Rattle.live_pages.specs.Page.{Page}
-use Rattle.live_pages.specs.Slot.{known}
+use Rattle.live_pages.specs.Words.{known}
 use Rattle.live_board.specs.inside.Pages.{logs_of}
 use Rattle.live_board.specs.inside.Parts.{IsFirst}
 use Rattle.live_board.proofs.Named.{log-at, length-logs, logs-set, names-set}

@@ -13,6 +13,7 @@ loop-vp-init c =
           c.none-forwarded.ensures.vectors c.none-forwarded.ensures.auto_eoi),
       c.clear_notices.ensures.notices,
       c.clear_notices.ensures.pages,
+      c.clear_notices.ensures.eoms,
     )
 
 pub forward_one-requires-clause-on : goal.forward_one-requires-clause-on
@@ -22,6 +23,9 @@ forward_one-requires-clause-on c =
 
 pub forward_one-requires-clause-notices : goal.forward_one-requires-clause-notices
 forward_one-requires-clause-notices c = c.loop-vp.invariant.1
+
+pub forward_one-requires-clause-eoms : goal.forward_one-requires-clause-eoms
+forward_one-requires-clause-eoms c = c.loop-vp.invariant.3
 
 pub loop-vp-smaller : goal.loop-vp-smaller
 loop-vp-smaller c =
@@ -38,6 +42,7 @@ loop-vp-preserved c = (
       c.forward_one.new.forwarded c.loop-vp.invariant.0 c.loop-vp-test.ensures.one.1,
   c.loop-vp-test.ensures.notices,
   c.loop-vp-test.ensures.pages ∙ c.loop-vp.invariant.2,
+  c.loop-vp-test.ensures.eoms,
 )
 
 pub returns-clause-forwarded : goal.returns-clause-forwarded
@@ -50,3 +55,6 @@ returns-clause-forwarded c =
 
 pub returns-clause-pages : goal.returns-clause-pages
 returns-clause-pages c = c.loop-vp-test.ensures.pages ∙ c.loop-vp.invariant.2
+
+pub returns-clause-eoms : goal.returns-clause-eoms
+returns-clause-eoms c = c.loop-vp-test.ensures.eoms

@@ -9,17 +9,17 @@ write_after-reply-requires-clause-own c = same-own _ _ c.requires.quiet
 pub returns-clause-page : goal.returns-clause-page
 returns-clause-page c =
     let one = c.write_after-reply.ensures.step in
-    let first : List Notice = c.settle_if.new.notices in
-    let second : List Notice = c.settle_under.new.notices in
+    let first : List Notice = c.refresh_if.new.notices in
+    let second : List Notice = c.refresh_under.new.notices in
     let last = one.notices ∙ ap (λ (l : List Notice). l ++ one.emitted) c.move_to-2.ensures.empty in
     record {
-      own = c.settle_if.new.self;
-      under = c.settle_under.new.self;
+      own = c.refresh_if.new.self;
+      under = c.refresh_under.new.self;
       first = first;
       second = second;
       last = one.emitted;
-      settled = c.settle_if.ensures.settled;
-      settled_under = c.settle_under.ensures.settled;
+      refreshed = c.refresh_if.ensures.refreshed;
+      refreshed_under = c.refresh_under.ensures.refreshed;
       pages = c.write_after-reply.ensures.pages;
       names = c.write_after-reply.ensures.names;
       performs = one.step;

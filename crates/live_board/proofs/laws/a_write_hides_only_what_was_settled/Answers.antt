@@ -1,5 +1,0 @@
-use Rattle.live_board.proofs.Covering.{hides_only}
-use Rattle.live_board.proofs.laws.a_write_hides_only_what_was_settled.Goals as goal
-
-pub returns : goal.returns
-returns c = hides_only
