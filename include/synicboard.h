@@ -388,7 +388,7 @@ typedef struct synicboard_next_tick {
 /* What became of an event, and all that the host must do next. Each field after `eoms` says how the board is, not
  * what has changed, so nothing is lost if an answer is not looked at. */
 typedef struct synicboard_answer {
-    synicboard_reply reply;             /* to the event; its `notices` are those of the event alone */
+    synicboard_reply reply;             /* to the event, with the number of its own notices */
     size_t notices;                     /* of the clock and the event: the first of them are in the room */
     uint64_t clock_eoms;                /* the EOMs after the clock has moved, as synicboard_eoms returns them */
     uint64_t eoms;                      /* those after the event */

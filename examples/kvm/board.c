@@ -77,22 +77,12 @@ static synicboard_reply answer(const synicboard_event *event, synicboard_reply r
     return reply;
 }
 
-/* The EOMs that the board performed after an event are events of the trace. */
-static void record_eoms(uint64_t eoms)
-{
-    static const synicboard_reply done = { .kind = SYNICBOARD_DONE };
-    for (uint8_t vp = 0; eoms >> vp != 0; vp++)
-        if (eoms >> vp & 1)
-            trace_entry(&(synicboard_event){ .kind = SYNICBOARD_WRITE, .vp = vp, .msr = SYNICBOARD_MSR_EOM }, &done);
-}
-
 static synicboard_reply perform(const synicboard_event *event)
 {
     synicboard_reply reply = synicboard_perform(board, event);
     uint64_t eoms = synicboard_eoms(board);
     answer(event, reply);
-    if (eoms != 0)
-        record_eoms(eoms);
+    trace_eoms(eoms);
     irqchip_collect();
     return reply;
 }
@@ -134,14 +124,6 @@ void board_advance(void)
 
 /* ---- What a guest does ---- */
 
-/* Whether an access of a register depends on the time: the counter is the time, a period starts at
- * it, and EOM stamps messages with it. */
-static bool depends_on_time(uint32_t msr)
-{
-    return msr == SYNICBOARD_MSR_TIME_REF_COUNT || msr == SYNICBOARD_MSR_EOM
-        || (msr >= SYNICBOARD_MSR_STIMER0_CONFIG && msr < SYNICBOARD_MSR_STIMER0_CONFIG + 8);
-}
-
 /* The board learns what is in a page before the guest sees it no longer. */
 static synicboard_reply move_overlay(const synicboard_event *write)
 {
@@ -158,7 +140,7 @@ synicboard_reply board_write(struct vp *vp, uint32_t msr, uint64_t value)
     synicboard_event write = { .kind = SYNICBOARD_WRITE, .vp = vp->number, .msr = msr, .value = value };
     if (msr == SYNICBOARD_MSR_SIMP || msr == SYNICBOARD_MSR_SIEFP)
         return move_overlay(&write);
-    if (depends_on_time(msr))
+    if (partition_needs_time(msr))
         tick(synicboard_moment(board));
     synicboard_reply reply = perform(&write);
     if (reply.kind == SYNICBOARD_DONE && msr == SYNICBOARD_MSR_TPR)
@@ -168,7 +150,7 @@ synicboard_reply board_write(struct vp *vp, uint32_t msr, uint64_t value)
 
 synicboard_reply board_read(struct vp *vp, uint32_t msr)
 {
-    if (depends_on_time(msr))
+    if (partition_needs_time(msr))
         tick(synicboard_moment(board));
     return perform(&(synicboard_event){ .kind = SYNICBOARD_READ, .vp = vp->number, .msr = msr });
 }
@@ -254,6 +236,14 @@ void board_send(uint8_t vector, uint64_t vps)
                 irqchip_request(vp, vector);
 }
 
+/* A port, a post or a signal. */
+synicboard_reply board_act(const synicboard_event *event)
+{
+    synicboard_reply reply = perform(event);
+    flags_set += reply.kind == SYNICBOARD_FLAG_WAS_CLEAR;
+    return reply;
+}
+
 synicboard_reply board_open_message_port(uint8_t port, uint8_t vp, uint8_t sint, uint8_t buffers)
 {
     return perform(&(synicboard_event){
@@ -268,11 +258,6 @@ synicboard_reply board_open_event_port(uint8_t port, uint8_t vp, uint8_t sint, u
     });
 }
 
-synicboard_reply board_close_port(uint8_t port)
-{
-    return perform(&(synicboard_event){ .kind = SYNICBOARD_CLOSE_PORT, .port = port });
-}
-
 synicboard_reply board_post(uint8_t port, uint32_t type, const void *payload, size_t length)
 {
     synicboard_event event = { .kind = SYNICBOARD_POST, .port = port, .message_type = type, .length = (uint8_t)length };
@@ -282,9 +267,7 @@ synicboard_reply board_post(uint8_t port, uint32_t type, const void *payload, si
 
 synicboard_reply board_signal(uint8_t port, uint16_t flag)
 {
-    synicboard_reply reply = perform(&(synicboard_event){ .kind = SYNICBOARD_SIGNAL, .port = port, .flag = flag });
-    flags_set += reply.kind == SYNICBOARD_FLAG_WAS_CLEAR;
-    return reply;
+    return board_act(&(synicboard_event){ .kind = SYNICBOARD_SIGNAL, .port = port, .flag = flag });
 }
 
 void board_wait_for_buffer(void)

@@ -1,143 +1,116 @@
-/* What of Hyper-V's interface is not the board's: the leaves of CPUID, the registers that
- * identify the guest and the hypervisor, the hypercall page and the reference TSC page. */
+/* What of Hyper-V's interface is not the board's: the leaves of CPUID, the registers that identify the guest and the
+ * hypervisor, the hypercall page and the reference TSC page. The library of the partition says what they are. */
 #include <string.h>
 #include <sys/ioctl.h>
 
 #include "vmm.h"
 
-enum {
-    MSR_GUEST_OS_ID = 0x40000000, MSR_HYPERCALL = 0x40000001, MSR_VP_INDEX = 0x40000002, MSR_RESET = 0x40000003,
-    MSR_REFERENCE_TSC = 0x40000021, MSR_TSC_FREQUENCY = 0x40000022, MSR_APIC_FREQUENCY = 0x40000023, MSR_ICR = 0x40000071,
-    MSR_VP_ASSIST = 0x40000073,
-};
-
-/* TLFS, "Feature Identification": bits of leaves 40000003 and 40000004. */
-enum {
-    HAS_REFERENCE_COUNTER = 1 << 1, HAS_SYNIC = 1 << 2, HAS_TIMERS = 1 << 3, HAS_APIC = 1 << 4, HAS_HYPERCALL = 1 << 5,
-    HAS_VP_INDEX = 1 << 6, HAS_RESET = 1 << 7, HAS_REFERENCE_TSC = 1 << 9, HAS_FREQUENCIES = 1 << 11,
-    CAN_POST_MESSAGES = 1 << 4, CAN_SIGNAL_EVENTS = 1 << 5, CAN_READ_FREQUENCIES = 1 << 8, HAS_DIRECT_TIMERS = 1 << 19,
-    PREFERS_APIC_REGISTERS = 1 << 3, PREFERS_RELAXED_TIMING = 1 << 5, HAS_NO_AUTO_EOI = 1 << 9, PREFERS_CLUSTER_IPI = 1 << 10,
-};
-
-static uint64_t guest_os_id, hypercall, reference_tsc, vp_assist[MOST_VPS];
+static struct partition partition;
 
 /* An interrupt that KVM's local APIC delivers ends by EOI alone, which the guest writes to it, as to any local APIC. */
+struct partition_offer hyperv_offer(void)
+{
+    uint32_t features = PARTITION_SYNIC | PARTITION_TIMERS | PARTITION_DIRECT_TIMERS | PARTITION_COUNTER | PARTITION_TSC_PAGE
+        | PARTITION_FREQUENCIES | PARTITION_HYPERCALLS | PARTITION_VP_INDEX | PARTITION_RESET | PARTITION_RELAXED
+        | PARTITION_CLUSTER_IPI | PARTITION_SUSPEND;
+    features |= vm.has_irqchip ? PARTITION_NO_AUTO_EOI : PARTITION_APIC | PARTITION_PREFERS_APIC | PARTITION_ASSIST;
+    features |= vm.vmbus.is_on ? PARTITION_CONNECTIONS : 0;
+    return (struct partition_offer){
+        .features = features, .vps = vm.vps, .spin_retries = UINT32_MAX, .tsc_hz = vm.tsc_hz, .apic_hz = APIC_HZ,
+    };
+}
+
 unsigned hyperv_add_cpuid(struct kvm_cpuid_entry2 *entries, unsigned count)
 {
-    const struct kvm_cpuid_entry2 leaves[] = {
-        /* "Microsoft Hv", then "Hv#1" */
-        { .function = 0x40000000, .eax = 0x40000005, .ebx = 0x7263694d, .ecx = 0x666f736f, .edx = 0x76482074 },
-        { .function = 0x40000001, .eax = 0x31237648 },
-        { .function = 0x40000002, .eax = 14393, .ebx = 10 << 16 },
-        { .function = 0x40000003,
-          .eax = HAS_REFERENCE_COUNTER | HAS_SYNIC | HAS_TIMERS | (vm.has_irqchip ? 0 : HAS_APIC) | HAS_HYPERCALL | HAS_VP_INDEX | HAS_RESET
-              | HAS_REFERENCE_TSC | HAS_FREQUENCIES,
-          .ebx = vm.vmbus.is_on ? CAN_POST_MESSAGES | CAN_SIGNAL_EVENTS : 0,
-          .edx = CAN_READ_FREQUENCIES | HAS_DIRECT_TIMERS },
-        { .function = 0x40000004, .eax = (vm.has_irqchip ? HAS_NO_AUTO_EOI : PREFERS_APIC_REGISTERS) | PREFERS_RELAXED_TIMING | PREFERS_CLUSTER_IPI,
-          .ebx = 0xffffffff },
-        { .function = 0x40000005, .eax = vm.vps, .ebx = vm.vps },
-    };
-    memcpy(entries + count, leaves, sizeof leaves);
-    return count + sizeof leaves / sizeof leaves[0];
+    struct partition_offer offer = hyperv_offer();
+    struct partition_leaf leaf;
+    for (uint32_t number = 0x40000000; partition_leaf(&offer, number, &leaf); number++)
+        entries[count++] = (struct kvm_cpuid_entry2){
+            .function = number, .eax = leaf.eax, .ebx = leaf.ebx, .ecx = leaf.ecx, .edx = leaf.edx,
+        };
+    return count;
 }
 
 /* ---- Registers ---- */
 
-/* EOI, ICR, TPR and the assist page. */
-static bool is_of_apic(uint32_t msr)
-{
-    return msr >= SYNICBOARD_MSR_EOI && msr <= MSR_VP_ASSIST;
-}
-
-static bool is_of_board(uint32_t msr)
-{
-    return msr == SYNICBOARD_MSR_TIME_REF_COUNT || msr == SYNICBOARD_MSR_EOI || msr == SYNICBOARD_MSR_TPR
-        || (msr >= SYNICBOARD_MSR_SCONTROL && msr <= SYNICBOARD_MSR_EOM)
-        || (msr >= SYNICBOARD_MSR_SINT0 && msr < SYNICBOARD_MSR_SINT0 + 16)
-        || (msr >= SYNICBOARD_MSR_STIMER0_CONFIG && msr < SYNICBOARD_MSR_STIMER0_CONFIG + 8);
-}
-
 static uint8_t *page_of(uint64_t value)
 {
-    return (value & 1) != 0 ? vm_memory(value & ~(uint64_t)(PAGE - 1), PAGE) : NULL;
+    uint64_t address;
+    return partition_page(value, &address) ? vm_memory(address, PAGE) : NULL;
 }
 
-/* TLFS, "Establishing the Hypercall Interface". The guest's page is filled and no overlay covers
- * it. VMCALL is KVM's, so a call exits by OUT to a port. */
-static void write_hypercall(uint64_t value)
+/* TLFS, "Establishing the Hypercall Interface". The guest's page is filled and no overlay covers it. VMCALL is KVM's, so
+ * a call exits by OUT to a port. */
+static void fill_hypercall(void)
 {
-    static const uint8_t code[] = { 0xe7, HYPERCALL_PORT, 0xc3 };   /* out %eax, $HYPERCALL_PORT; ret */
-    uint8_t *page = page_of(value);
-    hypercall = value;
+    uint8_t *page = page_of(partition.hypercall), code[8];
     if (page != NULL)
-        memcpy(page, code, sizeof code);
+        memcpy(page, code, partition_port_code(HYPERCALL_PORT, code));
 }
 
-static void write_reference_tsc(uint64_t value)
+static void fill_reference_tsc(void)
 {
-    uint8_t *page = page_of(value);
-    reference_tsc = value;
+    uint8_t *page = page_of(partition.reference_tsc);
     if (page != NULL)
         clock_fill_page(page);
 }
 
 uint32_t *hyperv_assist(const struct vp *vp)
 {
-    return (uint32_t *)(void *)page_of(vp_assist[vp->number]);
+    return (uint32_t *)(void *)page_of(partition.assist[vp->number]);
 }
 
 bool hyperv_read_msr(struct vp *vp, uint32_t msr, uint64_t *value)
 {
-    if (vm.has_irqchip && is_of_apic(msr))
-        return false;
-    if (is_of_board(msr)) {
+    struct partition_offer offer = hyperv_offer();
+    enum partition_owner owner = partition_owner(&offer, msr);
+    if (owner == PARTITION_OF_APIC && msr == MSR_ICR) {
+        *value = apic_icr(vp);
+        return true;
+    }
+    if (owner == PARTITION_OF_BOARD || owner == PARTITION_OF_APIC) {
         synicboard_reply reply = board_read(vp, msr);
         *value = reply.value;
         return reply.kind == SYNICBOARD_VALUE;
     }
-    switch (msr) {
-    case MSR_GUEST_OS_ID: *value = guest_os_id; return true;
-    case MSR_HYPERCALL: *value = hypercall; return true;
-    case MSR_VP_INDEX: *value = vp->number; return true;
-    case MSR_RESET: *value = 0; return true;
-    case MSR_REFERENCE_TSC: *value = reference_tsc; return true;
-    case MSR_TSC_FREQUENCY: *value = vm.tsc_hz; return true;
-    case MSR_APIC_FREQUENCY: *value = APIC_HZ; return true;
-    case MSR_ICR: *value = apic_icr(vp); return true;
-    case MSR_VP_ASSIST: *value = vp_assist[vp->number]; return true;
-    default: return false;
+    return owner == PARTITION_OWN && partition_read(&partition, &offer, vp->number, msr, value);
+}
+
+static bool write_own(struct vp *vp, uint32_t msr, uint64_t value)
+{
+    if (msr == MSR_VP_ASSIST)
+        assist_leave(vp);
+    enum partition_effect effect = partition_write(&partition, vp->number, msr, value);
+    switch (effect) {
+    case PARTITION_FILL_HYPERCALL: fill_hypercall(); break;
+    case PARTITION_FILL_TSC: fill_reference_tsc(); break;
+    case PARTITION_DO_RESET: vm_stop(0); break;
+    default: break;
     }
+    return effect != PARTITION_PROTECTION;
 }
 
 bool hyperv_write_msr(struct vp *vp, uint32_t msr, uint64_t value)
 {
-    if (vm.has_irqchip && is_of_apic(msr))
-        return false;
-    if (is_of_board(msr))
-        return board_write(vp, msr, value).kind == SYNICBOARD_DONE;
-    switch (msr) {
-    case MSR_GUEST_OS_ID: guest_os_id = value; return true;
-    case MSR_HYPERCALL: write_hypercall(value); return true;
-    case MSR_RESET: if ((value & 1) != 0) vm_stop(0); return true;
-    case MSR_REFERENCE_TSC: write_reference_tsc(value); return true;
-    case MSR_ICR: apic_write_icr(vp, value); return true;
-    case MSR_VP_ASSIST: assist_leave(vp); vp_assist[vp->number] = value; return true;
-    default: return false;
+    struct partition_offer offer = hyperv_offer();
+    enum partition_owner owner = partition_owner(&offer, msr);
+    if (owner == PARTITION_OF_APIC && msr == MSR_ICR) {
+        apic_write_icr(vp, value);
+        return true;
     }
+    if (owner == PARTITION_OF_BOARD || owner == PARTITION_OF_APIC)
+        return board_write(vp, msr, value).kind == SYNICBOARD_DONE;
+    return owner == PARTITION_OWN && write_own(vp, msr, value);
 }
 
 void hyperv_transfer(void)
 {
-    saved_transfer(&guest_os_id, sizeof guest_os_id);
-    saved_transfer(&hypercall, sizeof hypercall);
-    saved_transfer(&reference_tsc, sizeof reference_tsc);
-    saved_transfer(vp_assist, sizeof vp_assist);
+    saved_transfer(&partition, sizeof partition);
 }
 
 void hyperv_continue(void)
 {
-    write_reference_tsc(reference_tsc);
+    fill_reference_tsc();
 }
 
 void hyperv_call(struct vp *vp)

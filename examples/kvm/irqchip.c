@@ -33,20 +33,6 @@ static bool has(const uint64_t words[4], unsigned vector)
     return (words[vector / 64] >> vector % 64 & 1) != 0;
 }
 
-/* In the trace, a local APIC takes each vector, the greatest first, and ends it at once. */
-static void trace_taken(uint8_t vp, const synicboard_forwarded *forwarded)
-{
-    for (unsigned vector = 255; vector >= 16; vector--) {
-        if (!has(forwarded->vectors, vector))
-            continue;
-        trace_entry(&(synicboard_event){ .kind = SYNICBOARD_TAKE, .vp = vp },
-                    &(synicboard_reply){ .kind = SYNICBOARD_TAKEN, .vector = (uint8_t)vector });
-        if (!has(forwarded->auto_eoi, vector))
-            trace_entry(&(synicboard_event){ .kind = SYNICBOARD_WRITE, .vp = vp, .msr = SYNICBOARD_MSR_EOI },
-                        &(synicboard_reply){ .kind = SYNICBOARD_DONE });
-    }
-}
-
 /* Where KVM has no hardware below it (kvm_pvm, Linux 6.18), an interrupt does not always wake a processor that
  * halts: it sleeps until a signal ends KVM_RUN, and finds the interrupt when it enters again. There a processor in
  * the guest gets a signal after the board's vectors are injected, and each 20 ms for all other interrupts. A signal
@@ -67,7 +53,7 @@ static void collect(uint8_t vp)
 {
     synicboard_forwarded forwarded;
     synicboard_forward(board, vp, &forwarded);
-    trace_taken(vp, &forwarded);
+    trace_forwarded(vp, &forwarded);
     for (unsigned word = 0; word < 4; word++)
         collected[vp].words[word] |= forwarded.vectors[word];
     wake(&vm.vp[vp]);

@@ -9,11 +9,11 @@
 
 #include "vmm.h"
 
-enum { SECOND = 1000000, NEWEST_VMBUS = 5 << 16 | 3, MOST_LINES = 200 };
+enum { SECOND = 1000000, MOST_LINES = 200 };
 
 struct vm vm = {
     .vps = 2, .ram_size = 512 << 20, .load = 10000,
-    .vmbus = { .newest = NEWEST_VMBUS, .every = { SECOND, SECOND, SECOND / 50 } },
+    .vmbus = { .options.newest = VMBUS_NEWEST, .every = { SECOND, SECOND, SECOND / 50 } },
 };
 
 static const char usage[] =
@@ -99,12 +99,13 @@ static void report(void)
         print_exits(&vm.vp[number]);
     board_report();
     image_report();
-    vmbus_report();
+    if (vm.vmbus.is_on)
+        vmbus_report(bus);
     fprintf(stderr, "vmm: %.3f seconds, %lu changes of the memory slots, %lu instructions emulated here\n",
             (double)clock_now() / 1e7, vm.slot_changes, vm.emulated);
 }
 
-enum vmbus_option { VMBUS = 256, VERSION, HEARTBEAT_EVERY, TIMESYNC_EVERY, HEARTBEATS, SHUTDOWN_AFTER, RESCIND_AFTER, FROM_THREADS };
+enum bus_option { VMBUS = 256, VERSION, HEARTBEAT_EVERY, TIMESYNC_EVERY, HEARTBEATS, SHUTDOWN_AFTER, RESCIND_AFTER, FROM_THREADS };
 
 static uint64_t microseconds(const char *milliseconds)
 {
@@ -124,12 +125,12 @@ static bool parse_vmbus(int option, const char *word)
 {
     switch (option) {
     case VMBUS: vm.vmbus.is_on = true; return true;
-    case VERSION: vm.vmbus.newest = version(word); return true;
+    case VERSION: vm.vmbus.options.newest = version(word); return true;
     case HEARTBEAT_EVERY: vm.vmbus.every[0] = microseconds(word); return true;
     case TIMESYNC_EVERY: vm.vmbus.every[1] = microseconds(word); return true;
-    case HEARTBEATS: vm.vmbus.heartbeats = strtoull(word, NULL, 10); return true;
-    case SHUTDOWN_AFTER: vm.vmbus.shutdown_after = (uint32_t)strtoul(word, NULL, 10); return true;
-    case RESCIND_AFTER: vm.vmbus.rescind_after = (uint32_t)strtoul(word, NULL, 10); return true;
+    case HEARTBEATS: vm.vmbus.options.heartbeats = strtoull(word, NULL, 10); return true;
+    case SHUTDOWN_AFTER: vm.vmbus.options.shutdown_after = (uint32_t)strtoul(word, NULL, 10); return true;
+    case RESCIND_AFTER: vm.vmbus.options.rescind_after = (uint32_t)strtoul(word, NULL, 10); return true;
     case FROM_THREADS: vm.vmbus.signals_from_threads = true; return true;
     default: return false;
     }
@@ -201,7 +202,7 @@ int main(int count, char **words)
     load_continue();
     image_start();
     saved_start();
-    vmbus_start();
+    bus_start();
     lock_release();
     for (unsigned number = 0; number < vm.vps; number++)
         pthread_join(vm.vp[number].thread, NULL);
@@ -213,7 +214,7 @@ int main(int count, char **words)
     lock_release();
     if (options.reports)
         report();
-    if (vm.status == 0 && vm.vmbus.is_on && !vm.is_saving && !vmbus_is_answered())
+    if (vm.status == 0 && vm.vmbus.is_on && !vm.is_saving && !vmbus_is_answered(bus))
         vm.status = 3;
     return vm.status;
 }

@@ -116,7 +116,7 @@ static void transfer_all(void)
     hyperv_transfer();
     devices_transfer();
     load_transfer();
-    vmbus_transfer();
+    bus_transfer();
     board_transfer();
     clock_transfer();
     transfer_sum();

@@ -56,6 +56,7 @@ void vm_open(void)
     irqchip_open();
     filter_msrs();
     board_open();
+    bus_open();
     for (unsigned number = 0; number < vm.vps; number++)
         vp_open(number);
     overlay_map();

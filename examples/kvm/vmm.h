@@ -11,6 +11,8 @@
 #include <stddef.h>
 #include <stdint.h>
 
+#include "../../partition/partition.h"
+#include "../../vmbus/vmbus.h"
 #include "synicboard.h"
 
 enum { PAGE = 4096, MOST_VPS = 8 };
@@ -45,13 +47,11 @@ struct vp {
 };
 
 /* What the command line says about VMBus. */
-struct vmbus_options {
+struct bus_options {
     bool is_on;
     bool signals_from_threads;  /* by whichever thread has a packet, which loses flags where pages trap (docs/EMBEDDING.md) */
-    uint32_t newest;            /* the newest version that the host accepts: the major number times 65536, and the minor */
-    uint32_t shutdown_after, rescind_after;     /* milliseconds; 0 for never */
-    uint64_t heartbeats;        /* the guest is shut down after so many answers; 0 for never */
-    uint64_t every[3];          /* microseconds between two turns of a service: heartbeat, time, shutdown */
+    struct vmbus_options options;
+    uint64_t every[CHANNELS];   /* microseconds between two turns of a service */
 };
 
 /* The partition. The lock protects what changes after the start. */
@@ -72,7 +72,7 @@ struct vm {
     bool pages_trap;            /* the guest's stores to message and event flags pages exit */
     bool has_irqchip;           /* the local APICs are KVM's */
     bool misses_wakes;          /* KVM's local APICs do not always wake a processor (irqchip.c) */
-    struct vmbus_options vmbus;
+    struct bus_options vmbus;
     uint64_t tsc_hz;
     uint64_t slot_changes, emulated;
 };
@@ -129,7 +129,7 @@ void apic_transfer(void);
 void hyperv_transfer(void);
 void devices_transfer(void);
 void load_transfer(void);
-void vmbus_transfer(void);
+void bus_transfer(void);
 
 /* irqchip.c: the local APICs of KVM */
 struct vectors { uint64_t words[4]; };
@@ -182,7 +182,7 @@ void board_resume(struct vp *vp);
 void board_reset(struct vp *vp);
 synicboard_reply board_open_message_port(uint8_t port, uint8_t vp, uint8_t sint, uint8_t buffers);
 synicboard_reply board_open_event_port(uint8_t port, uint8_t vp, uint8_t sint, uint16_t base, uint16_t count);
-synicboard_reply board_close_port(uint8_t port);
+synicboard_reply board_act(const synicboard_event *event);   /* a port, a post or a signal */
 synicboard_reply board_post(uint8_t port, uint32_t type, const void *payload, size_t length);
 synicboard_reply board_signal(uint8_t port, uint16_t flag);
 void board_wait_for_buffer(void);           /* waits until a message leaves a queue, or board_end_waiting */
@@ -196,6 +196,8 @@ extern uint64_t board_absorbed;             /* bits that were absorbed */
 /* trace.c */
 void trace_begin(const void *image, size_t length);     /* of a board that is opened now, if the image is null */
 void trace_entry(const synicboard_event *event, const synicboard_reply *reply);
+void trace_eoms(uint64_t eoms);             /* those that the board performed itself */
+void trace_forwarded(uint8_t vp, const synicboard_forwarded *forwarded);
 void trace_end(void);
 
 /* overlay.c */
@@ -215,23 +217,17 @@ void assist_enter(struct vp *vp);
 void assist_leave(struct vp *vp);           /* before its assist page moves, or it is reset */
 
 /* hypercalls.c */
-enum {                                      /* TLFS, "Hypercall Status Codes" */
-    HV_STATUS_SUCCESS = 0, HV_STATUS_INVALID_HYPERCALL_CODE = 2, HV_STATUS_INVALID_HYPERCALL_INPUT = 3,
-    HV_STATUS_INVALID_ALIGNMENT = 4, HV_STATUS_INVALID_PARAMETER = 5, HV_STATUS_ACCESS_DENIED = 6,
-    HV_STATUS_INVALID_VP_INDEX = 14, HV_STATUS_INVALID_CONNECTION_ID = 18, HV_STATUS_INSUFFICIENT_BUFFERS = 19,
-};
 uint64_t hypercall_handle(uint64_t control, uint64_t input, uint64_t second);   /* RCX, RDX and R8; returns RAX */
 
-/* vmbus/ */
-uint64_t vmbus_post_message(uint32_t connection, uint32_t message_type, const void *payload, uint32_t length);
-uint64_t vmbus_signal_event(uint32_t connection, uint16_t flag);
-void vmbus_deliver(struct vp *vp);          /* sets the flags that are due on a processor that is not in the guest */
-void vmbus_start(void);
-bool vmbus_is_answered(void);               /* whether each request was answered */
-void vmbus_report(void);
+/* bus.c */
+extern struct vmbus *bus;
+void bus_open(void);
+void bus_start(void);                       /* starts the threads of the services, if VMBus is on */
+void bus_deliver(struct vp *vp);            /* what waits for a processor that is not in the guest */
 
 /* hyperv.c */
 enum { HYPERCALL_PORT = 0xe8 };
+struct partition_offer hyperv_offer(void);  /* what the guest is offered */
 unsigned hyperv_add_cpuid(struct kvm_cpuid_entry2 *entries, unsigned count);
 bool hyperv_read_msr(struct vp *vp, uint32_t msr, uint64_t *value);     /* false for #GP */
 uint32_t *hyperv_assist(const struct vp *vp);   /* the first word of its assist page; null if it has none */

@@ -274,7 +274,7 @@ static void *run_vp(void *argument)
             accept_init(vp);
         if (vp->has_sipi)
             accept_sipi(vp);
-        vmbus_deliver(vp);
+        bus_deliver(vp);
         accepts(vp);
         if (!can_run(vp))
             lock_wait(&vp->kicked);

@@ -1,4 +1,5 @@
-/* A fuzz target for the VMBus of examples/kvm: a guest that posts, signals and writes its rings as an input says.
+/* A fuzz target for vmbus/ and the hypercalls of partition/, as examples/kvm uses them: a guest that posts, signals and
+ * writes its rings as an input says.
  * Nothing may crash or run without end, and the state stays sound: guest_check. Its message and event flags pages are
  * live, and an input stores any words there. Before the first input, a guest that keeps the rules plays the whole
  * protocol.
@@ -29,7 +30,7 @@ static uint64_t read_number(struct input *input)
 static uint32_t read_connection(struct input *input)
 {
     uint8_t byte = read_byte(input);
-    return byte % 4 != 0 ? vmbus.connection : byte / 4;
+    return byte % 4 != 0 ? bus->connection : byte / 4;
 }
 
 /* A hypercall, whose input may be anywhere. */
@@ -51,7 +52,7 @@ static void post(struct input *input)
         uint32_t word = (uint32_t)read_number(input);
         memcpy(payload + at, &word, sizeof word);
     }
-    vmbus_post_message(connection, type % 8 == 0 ? type : CHANNEL_MESSAGE, payload, length);
+    vmbus_post_message(bus, connection, type % 8 == 0 ? type : CHANNEL_MESSAGE, payload, length);
 }
 
 /* A message that makes contact, asks for offers, lists pages or opens a channel, so that inputs get far. */
@@ -71,9 +72,9 @@ static void post_good(struct input *input)
     case 0:
         guest_post(contact.vmbus_version_requested >= VERSION_WIN10_V5 ? VMBUS_MESSAGE_CONNECTION_ID_4 : VMBUS_MESSAGE_CONNECTION_ID, &contact, sizeof contact);
         break;
-    case 1: guest_post(vmbus.connection, &(vmbus_header){ CHANNELMSG_REQUESTOFFERS, 0 }, 8); break;
-    case 2: guest_post(vmbus.connection, &header, (uint32_t)sizeof header.head + pages * 8); break;
-    case 3: guest_post(vmbus.connection, &opening, sizeof opening); break;
+    case 1: guest_post(bus->connection, &(vmbus_header){ CHANNELMSG_REQUESTOFFERS, 0 }, 8); break;
+    case 2: guest_post(bus->connection, &header, (uint32_t)sizeof header.head + pages * 8); break;
+    case 3: guest_post(bus->connection, &opening, sizeof opening); break;
     }
 }
 
@@ -104,16 +105,16 @@ static void act(struct input *input)
     case 3: case 4: post_good(input); break;
     case 5: store(input); break;
     case 6: store_live(input); break;
-    case 7: vmbus_signal_event(FIRST_EVENT_CONNECTION + read_byte(input) % 5, read_byte(input) % 16 == 15); break;
-    case 8: vmbus_deliver(&vm.vp[read_byte(input) % VPS]); break;
-    case 9: service_tick(read_byte(input) % CHANNELS); break;
+    case 7: vmbus_signal_event(bus, FIRST_EVENT_CONNECTION + read_byte(input) % 5, read_byte(input) % 16 == 15); break;
+    case 8: bus_deliver(&vm.vp[read_byte(input) % VPS]); break;
+    case 9: vmbus_tick(bus, read_byte(input) % CHANNELS); break;
     case 10: guest_take(message); break;
     case 11: case 12: guest_answer(read_byte(input) % CHANNELS, (uint32_t)read_number(input), (uint32_t)read_number(input)); break;
-    case 13: channel_rescind(read_byte(input) % CHANNELS); break;
+    case 13: channel_rescind(bus, read_byte(input) % CHANNELS); break;
     case 14: board_write(&vm.vp[read_byte(input) % VPS], SYNICBOARD_MSR_SCONTROL + read_byte(input) % 32, read_number(input)); break;
     case 15:
         guest_time += read_number(input) % 100000000;
-        vm.vmbus.heartbeats = read_byte(input) % 8;
+        bus->options.heartbeats = read_byte(input) % 8;
         break;
     }
 }

@@ -6,7 +6,8 @@
 #include <stdlib.h>
 #include <string.h>
 
-#include "../../examples/kvm/vmbus/vmbus.h"
+#include "../../examples/kvm/vmm.h"
+#include "../../vmbus/bus.h"
 
 enum { VPS = 2, RAM_PAGES = 96, SLOT = 256, MESSAGES = 64, FLAGS = 65, RINGS = 8 };     /* page numbers of the guest */
 

@@ -1,5 +1,5 @@
 /* The guest's side of VMBus for the fuzz target, as a driver that keeps the rules, and the hypervisor around the
- * files of examples/kvm/vmbus: the board is real, and nothing runs at the same time. */
+ * files of vmbus/: the board is real, and nothing runs at the same time. */
 #include "vmbus.h"
 
 synicboard *board;
@@ -21,6 +21,10 @@ void guest_fail(int line, const char *what)
 void fail(const char *what) { guest_fail(0, what); }
 void saved_refuse(const char *why) { guest_fail(0, why); }
 void saved_transfer(void *bytes, size_t length) { (void)bytes; (void)length; }
+struct partition_offer hyperv_offer(void)
+{
+    return (struct partition_offer){ .features = PARTITION_HYPERCALLS | PARTITION_SUSPEND | (vm.vmbus.is_on ? PARTITION_CONNECTIONS : 0), .vps = VPS };
+}
 uint8_t *vm_memory(uint64_t address, uint64_t length)
 {
     return address < vm.ram_size && length <= vm.ram_size - address ? vm.ram + address : NULL;
@@ -43,18 +47,20 @@ void vp_pause_others(void) {}
 void vp_resume_others(void) {}
 void vm_log(const char *format, ...) { (void)format; }
 void trace_entry(const synicboard_event *event, const synicboard_reply *reply) { (void)event; (void)reply; }
+void trace_eoms(uint64_t eoms) { (void)eoms; }
+void trace_forwarded(uint8_t vp, const synicboard_forwarded *forwarded) { (void)vp; (void)forwarded; }
 
 void guest_open(void)
 {
     memset(ram, 0, sizeof ram);
-    memset(&vmbus, 0, sizeof vmbus);
     vm.ram = ram;
     for (uint8_t number = 0; number < VPS; number++) {
         vm.vp[number] = (struct vp){ .number = number, .run = &runs[number] };
         runs[number].immediate_exit = 0;
     }
-    vm.vmbus = (struct vmbus_options){ .is_on = true, .newest = VERSION_WIN10_V5_3 };
+    vm.vmbus = (struct bus_options){ .is_on = true, .options.newest = VMBUS_NEWEST };
     board_open();
+    bus_open();
     board_write(&vm.vp[0], SYNICBOARD_MSR_SCONTROL, 1);
     board_write(&vm.vp[0], SYNICBOARD_MSR_SIMP, MESSAGES * PAGE | 1);
     board_write(&vm.vp[0], SYNICBOARD_MSR_SIEFP, FLAGS * PAGE | 1);
@@ -65,6 +71,7 @@ void guest_close(void)
 {
     for (unsigned number = 0; number < VPS; number++)
         synicboard_close_line(&vm.vp[number].line);
+    vmbus_close(bus);
     synicboard_release(&shared);
     synicboard_close_shared(&shared);
 }
@@ -75,7 +82,7 @@ uint64_t guest_post(uint32_t connection, const void *message, uint32_t length)
 {
     uint8_t payload[HV_MESSAGE_PAYLOAD_BYTE_COUNT] = { 0 };
     memcpy(payload, message, length);
-    return vmbus_post_message(connection, CHANNEL_MESSAGE, payload, length);
+    return vmbus_post_message(bus, connection, CHANNEL_MESSAGE, payload, length);
 }
 
 uint32_t guest_take(void *message)
@@ -89,7 +96,7 @@ uint32_t guest_take(void *message)
     memcpy(message, slot + 16, length);
     memset(slot, 0, 4);
     board_write(&vm.vp[0], SYNICBOARD_MSR_EOM, 0);
-    vmbus_deliver(&vm.vp[0]);
+    bus_deliver(&vm.vp[0]);
     return length;
 }
 
@@ -103,17 +110,17 @@ uint64_t guest_call(uint64_t control, uint64_t address, const void *input, size_
 
 uint8_t *guest_ring_byte(const struct ring *ring, uint32_t at)
 {
-    return ram + vmbus.gpadl[ring->gpadl].pfn[ring->first + 1 + at / PAGE] * PAGE + at % PAGE;
+    return ram + bus->gpadl[ring->gpadl].pfn[ring->first + 1 + at / PAGE] * PAGE + at % PAGE;
 }
 
 uint32_t *guest_ring_word(const struct ring *ring, unsigned word)
 {
-    return (uint32_t *)(void *)(ram + vmbus.gpadl[ring->gpadl].pfn[ring->first] * PAGE) + word;
+    return (uint32_t *)(void *)(ram + bus->gpadl[ring->gpadl].pfn[ring->first] * PAGE) + word;
 }
 
 bool guest_answer(unsigned number, uint32_t skew, uint32_t value)
 {
-    const struct channel *channel = &vmbus.channel[number];
+    const struct channel *channel = &bus->channel[number];
     uint32_t words[MOST_PACKET / 4] = { 0 };
     uint8_t *packet = (uint8_t *)words;
     if (channel->state != OPEN)
@@ -140,16 +147,15 @@ bool guest_answer(unsigned number, uint32_t skew, uint32_t value)
         *guest_ring_byte(&channel->inbound, (*write + at) % answer_size) = packet[at];
     *write = (*write + length + VMBUS_PKT_TRAILER) % answer_size;
     *guest_ring_word(&channel->inbound, WRITE_INDEX) = *write;
-    vmbus_signal_event(FIRST_EVENT_CONNECTION + number + 1, 0);
+    vmbus_signal_event(bus, FIRST_EVENT_CONNECTION + number + 1, 0);
     return true;
 }
 
-/* vmbus_transfer refuses a state that is not sound, and saved_refuse ends the program. */
 void guest_check(void)
 {
-    vmbus_transfer();
+    REQUIRE(vmbus_is_sound(bus));
     for (unsigned at = 0; at < MOST_GPADLS; at++)
-        REQUIRE(!vmbus.gpadl[at].is_used || gpadl_find(vmbus.gpadl[at].handle) == &vmbus.gpadl[at]);
+        REQUIRE(!bus->gpadl[at].is_used || gpadl_find(bus, bus->gpadl[at].handle) == &bus->gpadl[at]);
     for (unsigned at = 0; at < CHANNELS; at++)
-        REQUIRE(vmbus.answered[at] <= vmbus.sent[at] && (vmbus.version != 0 || vmbus.channel[at].state == UNOFFERED));
+        REQUIRE(bus->answered[at] <= bus->sent[at] && (bus->version != 0 || bus->channel[at].state == UNOFFERED));
 }

@@ -69,8 +69,8 @@ static void open_channel(uint32_t connection, uint32_t relid, uint32_t handle)
 static void beat(uint64_t count)
 {
     for (uint64_t done = 0; done < count; done++) {
-        service_tick(HEARTBEAT);
-        vmbus_deliver(&vm.vp[0]);
+        vmbus_tick(bus, HEARTBEAT);
+        bus_deliver(&vm.vp[0]);
         REQUIRE(guest_answer(HEARTBEAT, 0, 0));
     }
 }
@@ -93,7 +93,7 @@ static void end_channel(uint32_t connection, uint32_t relid, uint32_t handle, ui
     struct vmbus_channel_relid closing = { { CHANNELMSG_CLOSECHANNEL, 0 }, relid }, released = { { CHANNELMSG_RELID_RELEASED, 0 }, relid };
     struct vmbus_channel_gpadl_teardown teardown = { { CHANNELMSG_GPADL_TEARDOWN, 0 }, relid, handle };
     if (how == CHANNELMSG_RESCIND_CHANNELOFFER) {
-        channel_rescind(relid - 1);
+        channel_rescind(bus, relid - 1);
         expect(CHANNELMSG_RESCIND_CHANNELOFFER, answer);
         guest_post(connection, &closing, sizeof closing);
         guest_post(connection, &released, sizeof released);
@@ -104,8 +104,8 @@ static void end_channel(uint32_t connection, uint32_t relid, uint32_t handle, ui
         guest_post(connection, &teardown, sizeof teardown);     /* alone it closes the channel too */
         expect(CHANNELMSG_GPADL_TORNDOWN, answer);
     }
-    REQUIRE(vmbus.channel[relid - 1].state == OFFERED && gpadl_find(handle) == NULL);
-    REQUIRE(vmbus.sent[relid - 1] == vmbus.answered[relid - 1] && !vmbus.channel[relid - 1].is_negotiated);
+    REQUIRE(bus->channel[relid - 1].state == OFFERED && gpadl_find(bus, handle) == NULL);
+    REQUIRE(bus->sent[relid - 1] == bus->answered[relid - 1] && !bus->channel[relid - 1].is_negotiated);
 }
 
 /* A guest that takes no answers is refused, and gets them all later. */
@@ -120,7 +120,7 @@ static void withhold(uint32_t connection)
     REQUIRE(guest_post(connection, &request, sizeof request) == HV_STATUS_INSUFFICIENT_BUFFERS);
     while (guest_take(answer) != 0)
         taken++;
-    REQUIRE(taken == posted && vmbus.replies == 0 && vmbus.dropped == 0);
+    REQUIRE(taken == posted && bus->replies == 0 && bus->dropped == 0);
 }
 
 /* The status of each wrong hypercall. */
@@ -160,7 +160,7 @@ static void check_statuses(void)
     vm.vmbus.is_on = false;
     REQUIRE(guest_call(POST, INPUT, &good, sizeof good) == HV_STATUS_ACCESS_DENIED && hypercall_handle(SIGNAL | FAST, 0x10001, 0) == HV_STATUS_ACCESS_DENIED);
     vm.vmbus.is_on = true;
-    vmbus.ignored = 0;
+    bus->ignored = 0;
 }
 
 /* A host before version 5.0 has no connection 4, and refuses what it does not know. */
@@ -169,12 +169,12 @@ static void check_old_host(void)
     struct vmbus_channel_initiate_contact message = {
         .header.msgtype = CHANNELMSG_INITIATE_CONTACT, .vmbus_version_requested = VERSION_WIN10_V5, .msg_sint = VMBUS_MESSAGE_SINT,
     };
-    vm.vmbus.newest = VERSION_WIN10_V4_1;
+    bus->options.newest = VERSION_WIN10_V4_1;
     REQUIRE(guest_post(VMBUS_MESSAGE_CONNECTION_ID_4, &message, sizeof message) == HV_STATUS_INVALID_CONNECTION_ID);
     REQUIRE(contact(VERSION_WIN10_V4_1) == VMBUS_MESSAGE_CONNECTION_ID);
-    vm.vmbus.newest = VERSION_WIN10;
-    REQUIRE(contact(VERSION_WIN10_V4_1) == 0 && vmbus.version == 0 && contact(VERSION_WIN10) != 0);
-    vm.vmbus.newest = VERSION_WIN10_V5_3;
+    bus->options.newest = VERSION_WIN10;
+    REQUIRE(contact(VERSION_WIN10_V4_1) == 0 && bus->version == 0 && contact(VERSION_WIN10) != 0);
+    bus->options.newest = VERSION_WIN10_V5_3;
 }
 
 /* With an open channel. */
@@ -209,7 +209,7 @@ static void check_lists(uint32_t connection)
             header.pfn[page] = cases[at].first + page;
         guest_post(connection, &header, (uint32_t)sizeof header.head + cases[at].listed * 8);
         expect(CHANNELMSG_GPADL_CREATED, &created);
-        if (created.creation_status == 0 || created.gpadl != 7 || gpadl_find(7) != NULL)
+        if (created.creation_status == 0 || created.gpadl != 7 || gpadl_find(bus, 7) != NULL)
             guest_fail((int)at, cases[at].what);
     }
 }
@@ -245,17 +245,17 @@ static void check_full(uint32_t connection)
     enum { SIZE = (PAGES - MIDDLE - 1) * PAGE, NEGOTIATION = 72, STEP = 128, REST = (SIZE - NEGOTIATION) % STEP };
     static const uint64_t packet[STEP / 8];
     unsigned sent = 0;
-    uint64_t signals = vmbus.signals, full = vmbus.full[HEARTBEAT];
+    uint64_t signals = bus->signals, full = bus->full[HEARTBEAT];
     make_gpadl(connection, 1, 11);
     open_channel(connection, 1, 11);
-    REQUIRE(vmbus.signals == signals + 1 && ring_unread(&vmbus.channel[HEARTBEAT].outbound) == NEGOTIATION);
-    REQUIRE(!vmbus.channel[HEARTBEAT].is_signalled && channel_send(HEARTBEAT, packet, REST - VMBUS_PKT_TRAILER));
-    while (channel_send(HEARTBEAT, packet, STEP - VMBUS_PKT_TRAILER))
+    REQUIRE(bus->signals == signals + 1 && ring_unread(bus, &bus->channel[HEARTBEAT].outbound) == NEGOTIATION);
+    REQUIRE(!bus->channel[HEARTBEAT].is_signalled && channel_send(bus, HEARTBEAT, packet, REST - VMBUS_PKT_TRAILER));
+    while (channel_send(bus, HEARTBEAT, packet, STEP - VMBUS_PKT_TRAILER))
         sent++;
-    REQUIRE(sent == (SIZE - NEGOTIATION) / STEP - 1 && vmbus.full[HEARTBEAT] == full + 1 && !vmbus.channel[HEARTBEAT].is_signalled);
-    *guest_ring_word(&vmbus.channel[HEARTBEAT].outbound, READ_INDEX) = vmbus.channel[HEARTBEAT].outbound.index;
-    *guest_ring_word(&vmbus.channel[HEARTBEAT].outbound, INTERRUPT_MASK) = 1;
-    REQUIRE(channel_send(HEARTBEAT, packet, STEP - VMBUS_PKT_TRAILER) && !vmbus.channel[HEARTBEAT].is_signalled);
+    REQUIRE(sent == (SIZE - NEGOTIATION) / STEP - 1 && bus->full[HEARTBEAT] == full + 1 && !bus->channel[HEARTBEAT].is_signalled);
+    *guest_ring_word(&bus->channel[HEARTBEAT].outbound, READ_INDEX) = bus->channel[HEARTBEAT].outbound.index;
+    *guest_ring_word(&bus->channel[HEARTBEAT].outbound, INTERRUPT_MASK) = 1;
+    REQUIRE(channel_send(bus, HEARTBEAT, packet, STEP - VMBUS_PKT_TRAILER) && !bus->channel[HEARTBEAT].is_signalled);
     end_channel(connection, 1, 11, CHANNELMSG_GPADL_TEARDOWN);
 }
 
@@ -270,15 +270,15 @@ static void check_rings(uint32_t connection)
         { "the guest has read beyond the ring", 0, 0, 0, RING }, { "the guest has read half a word", 0, 0, 0, 4 },
     };
     for (unsigned at = 0; at < sizeof cases / sizeof cases[0]; at++) {
-        struct channel *channel = &vmbus.channel[HEARTBEAT];
+        struct channel *channel = &bus->channel[HEARTBEAT];
         struct vmpacket_descriptor descriptor = { VM_PKT_DATA_INBAND, cases[at].offset8, cases[at].length8, 0, 0 };
         make_gpadl(connection, HEARTBEAT + 1, 10);
         open_channel(connection, HEARTBEAT + 1, 10);
         memcpy(guest_ring_byte(&channel->inbound, 0), &descriptor, sizeof descriptor);
         *guest_ring_word(&channel->inbound, WRITE_INDEX) = cases[at].write;
         *guest_ring_word(&channel->outbound, READ_INDEX) = cases[at].read;
-        vmbus_signal_event(FIRST_EVENT_CONNECTION + HEARTBEAT + 1, 0);
-        REQUIRE(cases[at].read == 0 || !channel_send(HEARTBEAT, &(uint64_t[3]){ 0 }, 24));
+        vmbus_signal_event(bus, FIRST_EVENT_CONNECTION + HEARTBEAT + 1, 0);
+        REQUIRE(cases[at].read == 0 || !channel_send(bus, HEARTBEAT, &(uint64_t[3]){ 0 }, 24));
         if (channel->state != RESCINDED)
             guest_fail((int)at, cases[at].what);
         end_channel(connection, HEARTBEAT + 1, 10, CHANNELMSG_RESCIND_CHANNELOFFER);
@@ -300,7 +300,7 @@ void guest_scenario(void)
         take_offers(connection);
         make_gpadl(connection, HEARTBEAT + 1, 0xe1e10);
         open_channel(connection, HEARTBEAT + 1, 0xe1e10);
-        REQUIRE(guest_answer(HEARTBEAT, 0, 0) && vmbus.channel[HEARTBEAT].is_negotiated);
+        REQUIRE(guest_answer(HEARTBEAT, 0, 0) && bus->channel[HEARTBEAT].is_negotiated);
         check_signals();
         beat(2000);
         end_channel(connection, HEARTBEAT + 1, 0xe1e10, CHANNELMSG_CLOSECHANNEL);
@@ -308,7 +308,7 @@ void guest_scenario(void)
         open_channel(connection, HEARTBEAT + 1, 0xe1e11);
         REQUIRE(guest_answer(HEARTBEAT, 0, 0));
         beat(10);
-        service_tick(HEARTBEAT);        /* this one is withdrawn */
+        vmbus_tick(bus, HEARTBEAT);        /* this one is withdrawn */
         end_channel(connection, HEARTBEAT + 1, 0xe1e11, CHANNELMSG_RESCIND_CHANNELOFFER);
         check_lists(connection);
         check_opens(connection);
@@ -319,6 +319,6 @@ void guest_scenario(void)
         expect(CHANNELMSG_UNLOAD_RESPONSE, answer);
         guest_check();
     }
-    REQUIRE(vmbus.answered[HEARTBEAT] == 2010 * 8 && vmbus.wrong[HEARTBEAT] == 0);
+    REQUIRE(bus->answered[HEARTBEAT] == 2010 * 8 && bus->wrong[HEARTBEAT] == 0);
     guest_close();
 }
