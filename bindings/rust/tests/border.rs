@@ -7,7 +7,7 @@ use std::sync::Mutex;
 use std::thread;
 use synicboard::msr::{EOI, SCONTROL, SIEFP, SIMP, SINT0, STIMER0_CONFIG, STIMER0_COUNT, SVERSION};
 use synicboard::{
-    check, format_entry, replay, AnswerRoom, Board, Bytes8, End, Event, Line, Notice, OpenFault, Owner, PayloadBytes,
+    check, format_entry, replay, AnswerRoom, Board, Bytes8, End, Event, EventFault, Line, Notice, OpenFault, Owner, PayloadBytes,
     PortShape,
     Refusal, Reply, RestoreFault, Sint, FormatFault, TimerId, Vector, Verdict, Vp, MOST_NOTICES,
 };
@@ -577,4 +577,29 @@ fn ports_are_found_and_sources_asserted() {
     assert_eq!(board.next_bits(), 2);
     assert_eq!(board.assert_source(2, 2), Reply::Refused(Refusal::NoSuchProcessor));
     assert_eq!(board.assert_source(1, 16), Reply::NoEvent);
+}
+
+#[test]
+fn replies_are_results() {
+    let mut board = Board::open(1, 1, 7).unwrap();
+    assert_eq!(board.read(0, 0x4000_0081).value(), Ok(1));
+    assert_eq!(board.read(0, 0x4000_0000).value(), Err(EventFault::GeneralProtection));
+    assert_eq!(board.load(0, 2).bytes().map(|bytes| bytes.as_ref().len()), Ok(2));
+    assert_eq!(board.load(4096, 2).bytes(), Err(EventFault::Refused(Refusal::OutsideSpace)));
+    assert_eq!(board.take(0).vector(), Ok(None));
+    assert_eq!(board.take(1).vector(), Err(EventFault::Refused(Refusal::NoSuchProcessor)));
+    assert_eq!(board.post(3, 1, &[0; 241]).ticket(), Err(EventFault::NoEvent));
+    assert_eq!(board.signal(4, 0).is_set(), Err(EventFault::Refused(Refusal::UnknownPort)));
+    let fault = EventFault::Refused(Refusal::UnknownPort);
+    assert_eq!(fault.to_string(), "the event was refused: the port is not open, or the board has none of that number");
+    assert!(fault.source().is_some() && EventFault::NoEvent.source().is_none());
+    assert_eq!((Vp::try_from(63).unwrap().to_string(), Vp::try_from(64).unwrap_err().to_string()), ("63".into(), "64 is out of range".into()));
+    assert_eq!((Sint::try_from(2).unwrap().to_string(), Vector::try_from(0x50).unwrap().to_string()), ("SINT2".into(), "50".into()));
+    assert!(Sint::try_from(16).is_err() && Vector::try_from(15).is_err());
+}
+
+#[test]
+#[should_panic(expected = "Done is no reply to a read")]
+fn a_reply_to_another_event_has_no_value() {
+    let _ = Board::open(1, 1, 0).unwrap().write(0, 0x4000_0080, 1).value();
 }
