@@ -2,6 +2,7 @@
 #include "internal.h"
 #include "qapi/error.h"
 #include "qemu/host-utils.h"
+#include "qemu/memalign.h"
 #include "qemu/error-report.h"
 #include "qemu/thread.h"
 
@@ -16,7 +17,7 @@ static struct {
     bool is_any;
     bool has_buffers;                   /* a message left its queue */
     uint64_t placed;                    /* watches whose message was placed */
-    uint64_t marked, vps;               /* processors with a notice REQUESTED; with vectors */
+    uint64_t vps;                       /* processors with vectors */
     uint64_t vectors[PARTITION_VPS][4];
     uint64_t wanted, armed;             /* the host's timer */
 } work = { .wanted = SYNIC_NEVER, .armed = SYNIC_NEVER };
@@ -43,29 +44,18 @@ static void handle_notice(const synicboard_notice *notice)
     notices_seen++;
     by_kind[notice->kind]++;
     synic_log_notice(synicboard_moment(&board), notice);
-    switch (notice->kind) {
-    case SYNICBOARD_NOTICE_REQUESTED: work.marked |= 1ULL << notice->vp; break;
-    case SYNICBOARD_NOTICE_PLACED: case SYNICBOARD_NOTICE_WITHDRAWN:
+    if (notice->kind == SYNICBOARD_NOTICE_PLACED || notice->kind == SYNICBOARD_NOTICE_WITHDRAWN) {
         work.has_buffers = true;
         look_at_watches(notice);
-        break;
     }
 }
 
-static void handle_notices(void)
-{
-    static synicboard_notice notices[SYNICBOARD_MOST_LIVE_NOTICES];
-    size_t count = synicboard_notices(&board, notices, SYNICBOARD_MOST_LIVE_NOTICES);
-    for (size_t at = 0; at < count; at++)
-        handle_notice(&notices[at]);
-}
-
 /* The local APICs are QEMU's, so each vector that is requested is forwarded, once. */
-static void collect(void)
+static void collect(uint64_t vps)
 {
-    for (uint8_t vp = 0; work.marked != 0; vp++) {
+    for (uint8_t vp = 0; vp < synic.offer.vps; vp++) {
         synicboard_forwarded vectors;
-        if (!(work.marked >> vp & 1))
+        if (!(vps >> vp & 1))
             continue;
         synicboard_forward(&board, vp, &vectors);
         synic_log_forwarded(vp, &vectors);
@@ -74,76 +64,56 @@ static void collect(void)
             forwarded += ctpop64(vectors.vectors[word]);
         }
         work.vps |= 1ULL << vp;
-        work.marked &= ~(1ULL << vp);
     }
 }
 
-static synicboard_reply perform(const synicboard_event *event)
+/* The clock moves first, so in a trace a tick comes before the event. */
+static void log_step(uint64_t now, bool is_moved, const synicboard_event *event, const synicboard_answer *answer)
 {
-    synicboard_reply reply = synicboard_perform(&board, event);
-    uint64_t eoms = synicboard_eoms(&board);
+    static const synicboard_reply done = { .kind = SYNICBOARD_DONE };
+    if (is_moved) {
+        synic_log_event(&(synicboard_event){ .kind = SYNICBOARD_TICK, .moment = now }, &done);
+        synic_log_eoms(answer->clock_eoms);
+    }
+    if (event != NULL) {
+        synic_log_event(event, &answer->reply);
+        synic_log_eoms(answer->eoms);
+    }
+}
+
+/* Moves the clock and performs an event, if there is one. A timer that is late by several periods has its next alarm at
+ * once, so the host's timer expires again. */
+static synicboard_reply step(uint64_t now, const synicboard_event *event)
+{
+    static synicboard_notice notices[SYNICBOARD_MOST_LIVE_NOTICES];
+    bool is_moved = now > synicboard_moment(&board);
+    synicboard_answer answer = synicboard_step(&board, now, event, 0, notices, SYNICBOARD_MOST_LIVE_NOTICES);
     events++;
-    synic_log_event(event, &reply);
-    if (reply.notices != 0)
-        handle_notices();
-    synic_log_eoms(eoms);
-    collect();
-    return reply;
-}
-
-static void tick_to(uint64_t moment)
-{
-    perform(&(synicboard_event){ .kind = SYNICBOARD_TICK, .moment = moment });
-}
-
-/* Ticks if a timer can expire by now. One that is late by several periods has its next alarm at once, so the host's
- * timer expires again. */
-static void advance(uint64_t now)
-{
-    synicboard_next_tick next = synicboard_alarm(&board);
-    if (next.is_set && next.moment <= now) {
-        tick_to(now);
-        next = synicboard_alarm(&board);
-    }
-    work.wanted = next.is_set ? next.moment : SYNIC_NEVER;
+    log_step(now, is_moved, event, &answer);
+    for (size_t at = 0; at < answer.notices; at++)
+        handle_notice(&notices[at]);
+    collect(answer.next);
+    work.wanted = answer.alarm.is_set ? answer.alarm.moment : SYNIC_NEVER;
     work.is_any = work.wanted != work.armed || work.vps != 0 || work.placed != 0 || work.has_buffers;
-}
-
-static void make_live(synicboard *opened)
-{
-    if (!synic_log_options.traps && synicboard_make_live(opened, live_pages) != SYNICBOARD_OK) {
-        error_report("synicboard: no memory for the message and event flags pages");
-        exit(1);
-    }
-}
-
-static void observe_all(void)
-{
-    for (unsigned vp = 0; vp < synic.offer.vps; vp++)
-        if (synicboard_is_live(&board) && synicboard_observe_all(&board, vp).notices != 0)
-            handle_notices();
+    return answer.reply;
 }
 
 /* ---- Events ---- */
 
-enum { IS_TICKED = 1, IS_WATCHED = 2 };
-
-/* The clock is read before the lock is acquired, so another thread may have ticked to a later time. A message may be
- * placed in the same call, so its watch has the ticket before. */
-static synicboard_reply act(const synicboard_event *event, unsigned how, unsigned watch)
+/* The clock is read before the lock is acquired; if another thread has moved the board to a later time, the board's stays.
+ * A message may be placed in the same call, so its watch has the ticket before. */
+static synicboard_reply act(const synicboard_event *event, int watch)
 {
     uint64_t now = synic_now();
     qemu_mutex_lock(&lock);
-    if (how == IS_TICKED)
-        tick_to(MAX(now, synicboard_moment(&board)));
-    if (how == IS_WATCHED) {
+    if (watch >= 0) {
+        step(now, NULL);
         watches[watch].is_used = true;
         watches[watch].ticket = synicboard_next_ticket(&board);
     }
-    synicboard_reply reply = perform(event);
-    if (how == IS_WATCHED && reply.kind != SYNICBOARD_ACCEPTED)
+    synicboard_reply reply = step(now, event);
+    if (watch >= 0 && reply.kind != SYNICBOARD_ACCEPTED)
         watches[watch].is_used = false;
-    advance(now);
     bool is_any = work.is_any;
     qemu_mutex_unlock(&lock);
     if (is_any)
@@ -153,25 +123,21 @@ static synicboard_reply act(const synicboard_event *event, unsigned how, unsigne
 
 synicboard_reply synic_perform(const synicboard_event *event)
 {
-    return act(event, 0, 0);
-}
-
-synicboard_reply synic_perform_at(const synicboard_event *event)
-{
-    return act(event, IS_TICKED, 0);
+    return act(event, -1);
 }
 
 synicboard_reply synic_post_watched(const synicboard_event *event, unsigned watch)
 {
-    return act(event, IS_WATCHED, watch);
+    return act(event, watch);
 }
 
+/* The host's timer has expired, so it is to be armed again. */
 void synic_tick(void)
 {
     uint64_t now = synic_now();
     qemu_mutex_lock(&lock);
     work.armed = SYNIC_NEVER;
-    advance(now);
+    step(now, NULL);
     qemu_mutex_unlock(&lock);
     synic_settle();
 }
@@ -237,33 +203,41 @@ void synic_open_board(void)
         error_report("synicboard: no memory for %u processors", synic.offer.vps);
         exit(1);
     }
+    for (unsigned at = 0; at < 2 * synic.offer.vps; at++)
+        live_pages[at] = qemu_memalign(PARTITION_PAGE, PARTITION_PAGE);
     synic.is_open = true;
+}
+
+/* The pages are QEMU's, so they are mapped once, and a board that is restored gets them again. */
+static void make_live(void)
+{
+    if (!synic_log_options.traps && synicboard_make_live_in(&board, live_pages) != SYNICBOARD_OK) {
+        error_report("synicboard: no memory for the message and event flags pages");
+        exit(1);
+    }
 }
 
 void synic_make_ready(void)
 {
+    make_live();
+    synic_make_regions();
     qemu_mutex_lock(&lock);
-    make_live(&board);
     synic_log_begin(&board, NULL, 0);
     qemu_mutex_unlock(&lock);
-    synic_make_regions();
     synic.is_ready = true;
 }
 
-char *synic_save_image(size_t *length)
+uint8_t *synic_save_image(size_t *length)
 {
     qemu_mutex_lock(&lock);
-    observe_all();
     size_t size = synicboard_save(&board, NULL, 0).length;
-    char *image = g_malloc(size + 1);
-    synicboard_end end = synicboard_save(&board, (uint8_t *)image, size);
+    uint8_t *image = g_malloc(size + 1);
+    *length = synicboard_save(&board, image, size).length;
     qemu_mutex_unlock(&lock);
-    *length = end.length;
     return image;
 }
 
-/* The pages of the old board are mapped until the regions of the new one are, so it is closed last. A processor of the
- * image may have requested vectors that the local APICs do not have yet. */
+/* The processors of the image may have requested vectors that the local APICs do not have yet. */
 bool synic_restore_image(const uint8_t *image, size_t length, Error **errp)
 {
     synicboard restored = SYNICBOARD_CLOSED;
@@ -272,27 +246,25 @@ bool synic_restore_image(const uint8_t *image, size_t length, Error **errp)
         error_setg(errp, "synicboard: %s (line %" PRIu64 " of the image)", synicboard_outcome_text(end.kind), end.line);
         return false;
     }
-    make_live(&restored);
     qemu_mutex_lock(&lock);
-    synicboard old = board;
+    synicboard_close(&board);
     board = restored;
+    make_live();
     synic_log_begin(&board, image, length);
-    work.armed = SYNIC_NEVER;
     memset(watches, 0, sizeof(watches));
-    for (unsigned vp = 0; vp < synic.offer.vps; vp++)
-        work.marked |= 1ULL << vp;
-    collect();
-    advance(synicboard_moment(&board));
+    work.armed = SYNIC_NEVER;
+    collect(UINT64_MAX);
+    step(synicboard_moment(&board), NULL);
     qemu_mutex_unlock(&lock);
-    synic_make_regions();
     synic_map_overlays();
-    synicboard_close(&old);
     return true;
 }
 
+/* At the end of QEMU, which may come while the lock is held. */
 void synic_report(void)
 {
-    qemu_mutex_lock(&lock);
+    if (qemu_mutex_trylock(&lock) != 0)
+        return;
     synic_log_end(&board);
     fprintf(stderr, "synicboard: %" PRIu64 " events, %" PRIu64 " notices, %" PRIu64 " vectors forwarded; settled %" PRIu64 " times\n",
             events, notices_seen, forwarded, settled);

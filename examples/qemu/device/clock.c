@@ -45,14 +45,14 @@ void synic_open_timer(void)
     timer = timer_new_ns(QEMU_CLOCK_VIRTUAL, fire, NULL);
 }
 
-/* A nanosecond at which the time is reached, and at most 100 after the first one. */
+/* The TSC is in nanoseconds. */
 void synic_arm(uint64_t time)
 {
-    int64_t at = time * 100;
-    if (time >= INT64_MAX / 100 - 1)
+    uint64_t at = time == SYNIC_NEVER ? SYNIC_NEVER : synicboard_tsc_until(reference, time);
+    if (at > INT64_MAX)
         timer_del(timer);
     else
-        timer_mod(timer, synicboard_tsc_time(reference, at) < time ? at + 100 : at);
+        timer_mod(timer, at);
 }
 
 /* RDMSR and WRMSR run without QEMU's lock, and what they ask of QEMU's devices needs it. */

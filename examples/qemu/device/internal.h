@@ -30,16 +30,15 @@ extern struct synic synic;
 /* board.c. Without its lock. */
 void synic_open_board(void);
 void synic_make_ready(void);            /* before the processors run: live pages, logs */
-synicboard_reply synic_perform(const synicboard_event *event);     /* and does what it asks for */
-synicboard_reply synic_perform_at(const synicboard_event *event);  /* the same, after a tick to the present */
+synicboard_reply synic_perform(const synicboard_event *event);     /* at the present time, and does what it asks for */
 void synic_tick(void);                  /* if a timer is due */
 void synic_settle(void);                /* does what events asked for; takes the BQL if there is anything */
 bool synic_is_auto(uint8_t vp, uint8_t vector);
 enum { SYNIC_WATCHES = 64 };
 synicboard_reply synic_post_watched(const synicboard_event *event, unsigned watch);     /* synic_routes_placed is called when it is placed */
 void synic_list_overlays(uint64_t pages[2 * PARTITION_VPS]);        /* the address of each overlay, or SYNIC_NEVER */
-uint8_t *synic_live_page(unsigned number);      /* 2 * vp for messages, 2 * vp + 1 for flags; null if pages trap */
-char *synic_save_image(size_t *length);
+uint8_t *synic_live_page(unsigned number);      /* 2 * vp for messages, 2 * vp + 1 for flags */
+uint8_t *synic_save_image(size_t *length);
 bool synic_restore_image(const uint8_t *image, size_t length, Error **errp);
 void synic_report(void);
 
@@ -59,7 +58,7 @@ bool synic_apic_read(X86CPU *cpu, uint32_t msr, uint64_t *value);
 bool synic_apic_write(X86CPU *cpu, uint32_t msr, uint64_t value);
 
 /* overlay.c. Under the BQL. */
-void synic_make_regions(void);          /* of the live pages that the board has now */
+void synic_make_regions(void);
 void synic_map_overlays(void);
 void synic_move_overlay(X86CPU *cpu, uint32_t msr, uint64_t value);     /* a write of SIMP or SIEFP, while no processor runs; without the BQL */
 

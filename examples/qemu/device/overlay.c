@@ -6,7 +6,7 @@
 
 enum { PRIORITY = 1000 };       /* above whatever QEMU maps */
 
-static MemoryRegion *regions[2 * PARTITION_VPS];
+static MemoryRegion regions[2 * PARTITION_VPS];
 static uint64_t mapped[2 * PARTITION_VPS];      /* the guest's address, or SYNIC_NEVER */
 
 /* ---- Pages that trap ---- */
@@ -41,27 +41,17 @@ static const MemoryRegionOps traps = {
 
 /* ---- Regions ---- */
 
-static void make_region(unsigned number)
-{
-    g_autofree char *name = g_strdup_printf("synicboard-%s-%u", number % 2 ? "flags" : "messages", number / 2);
-    uint8_t *page = synic_live_page(number);
-    if (regions[number] != NULL && mapped[number] != SYNIC_NEVER)
-        memory_region_del_subregion(get_system_memory(), regions[number]);
-    if (regions[number] != NULL)
-        object_unparent(OBJECT(regions[number]));
-    mapped[number] = SYNIC_NEVER;
-    regions[number] = g_new0(MemoryRegion, 1);
-    if (page != NULL)
-        memory_region_init_ram_ptr(regions[number], NULL, name, PARTITION_PAGE, page);
-    else
-        memory_region_init_io(regions[number], NULL, &traps, (void *)(uintptr_t)number, name, PARTITION_PAGE);
-}
-
-/* The live pages of a restored board are at other addresses, and a region of RAM cannot get another one. */
+/* The pages are there as long as the machine, whichever board has them. */
 void synic_make_regions(void)
 {
-    for (unsigned number = 0; number < 2 * synic.offer.vps; number++)
-        make_region(number);
+    for (unsigned number = 0; number < 2 * synic.offer.vps; number++) {
+        g_autofree char *name = g_strdup_printf("synicboard-%s-%u", number % 2 ? "flags" : "messages", number / 2);
+        mapped[number] = SYNIC_NEVER;
+        if (synic_log_options.traps)
+            memory_region_init_io(&regions[number], NULL, &traps, (void *)(uintptr_t)number, name, PARTITION_PAGE);
+        else
+            memory_region_init_ram_ptr(&regions[number], NULL, name, PARTITION_PAGE, synic_live_page(number));
+    }
 }
 
 /* QEMU flushes the TLBs at the end of the transaction. */
@@ -74,9 +64,9 @@ void synic_map_overlays(void)
     memory_region_transaction_begin();
     for (unsigned at = 0; at < 2 * synic.offer.vps; at++) {
         if (mapped[at] != wanted[at] && mapped[at] != SYNIC_NEVER)
-            memory_region_del_subregion(get_system_memory(), regions[at]);
+            memory_region_del_subregion(get_system_memory(), &regions[at]);
         if (mapped[at] != wanted[at] && wanted[at] != SYNIC_NEVER)
-            memory_region_add_subregion_overlap(get_system_memory(), wanted[at], regions[at], PRIORITY);
+            memory_region_add_subregion_overlap(get_system_memory(), wanted[at], &regions[at], PRIORITY);
         mapped[at] = wanted[at];
     }
     memory_region_transaction_commit();

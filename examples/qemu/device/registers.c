@@ -93,7 +93,7 @@ static bool write_own(X86CPU *cpu, uint32_t msr, uint64_t value)
 
 static bool is_board_done(const synicboard_event *event, uint64_t *value)
 {
-    synicboard_reply reply = partition_needs_time(event->msr) ? synic_perform_at(event) : synic_perform(event);
+    synicboard_reply reply = synic_perform(event);
     *value = reply.value;
     return reply.kind == SYNICBOARD_DONE || reply.kind == SYNICBOARD_VALUE;
 }

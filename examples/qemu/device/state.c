@@ -16,7 +16,7 @@ static int pre_save(void *opaque)
 {
     size_t length;
     g_free(saved.image);
-    saved.image = (uint8_t *)synic_save_image(&length);
+    saved.image = synic_save_image(&length);
     saved.length = length;
     saved.vps = synic.offer.vps;
     saved.features = synic.offer.features;
