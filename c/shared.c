@@ -7,21 +7,34 @@
 /* What the handle of a shared board points to. A board that is not recorded has no history. */
 struct shared { pthread_mutex_t lock; bool is_recorded; recorded recorded; };
 
-/* What is under the lock of a handle, which this acquires; null if the handle is closed. */
-static struct shared *locked(synicboard_shared *handle)
+/* What is under the lock of a handle, which this acquires; null, and why, if the handle is closed or this thread
+ * has the lock. */
+static struct shared *locked(synicboard_shared *handle, uint8_t *outcome)
 {
+    *outcome = SYNICBOARD_IS_CLOSED;
     if (handle == NULL || !handle->is_open)
         return NULL;
     struct shared *shared = handle->at;
-    pthread_mutex_lock(&shared->lock);
-    return shared;
+    *outcome = pthread_mutex_lock(&shared->lock) == 0 ? SYNICBOARD_OK : SYNICBOARD_IS_HELD;
+    return *outcome == SYNICBOARD_OK ? shared : NULL;
+}
+
+/* A lock that says so if its own thread acquires it again, or another releases it. */
+static int init_lock(pthread_mutex_t *lock)
+{
+    pthread_mutexattr_t attributes;
+    if (pthread_mutexattr_init(&attributes) != 0)
+        return 1;
+    int failed = pthread_mutexattr_settype(&attributes, PTHREAD_MUTEX_ERRORCHECK) || pthread_mutex_init(lock, &attributes);
+    pthread_mutexattr_destroy(&attributes);
+    return failed;
 }
 
 /* Puts an open board under a lock. */
 static uint8_t share(synicboard_shared *handle, recorded opened, bool is_recorded)
 {
     struct shared *shared = malloc(sizeof *shared);
-    if (shared == NULL || pthread_mutex_init(&shared->lock, NULL) != 0) {
+    if (shared == NULL || init_lock(&shared->lock) != 0) {
         free(shared);
         return SYNICBOARD_NO_MEMORY;
     }
@@ -105,14 +118,23 @@ void synicboard_close_shared(synicboard_shared *handle)
 
 synicboard *synicboard_hold(synicboard_shared *handle)
 {
-    struct shared *shared = locked(handle);
+    uint8_t outcome;
+    struct shared *shared = locked(handle, &outcome);
     return shared != NULL ? &shared->recorded.board : NULL;
 }
 
-void synicboard_release(synicboard_shared *handle)
+uint8_t synicboard_release(synicboard_shared *handle)
 {
-    if (handle != NULL && handle->is_open)
-        pthread_mutex_unlock(&((struct shared *)handle->at)->lock);
+    if (handle == NULL || !handle->is_open)
+        return SYNICBOARD_IS_CLOSED;
+    struct shared *shared = handle->at;
+    return pthread_mutex_unlock(&shared->lock) == 0 ? SYNICBOARD_OK : SYNICBOARD_NOT_HELD;
+}
+
+/* The reply of a call that a thread makes while it holds the board. */
+static synicboard_reply held_already(void)
+{
+    return (synicboard_reply){ .kind = SYNICBOARD_NOT_PERFORMED, .fault = SYNICBOARD_IS_HELD };
 }
 
 /* The reply of a board that is not recorded, with the notices of its event. */
@@ -126,7 +148,10 @@ static synicboard_reply with_notices(const synicboard *board, synicboard_reply r
 synicboard_reply synicboard_act(synicboard_shared *handle, uint8_t actor, const synicboard_event *event, synicboard_notice *notices, size_t room)
 {
     EVENT(event) ROOM(notices, room, synicboard_notice)
-    struct shared *shared = locked(handle);
+    uint8_t outcome;
+    struct shared *shared = locked(handle, &outcome);
+    if (outcome == SYNICBOARD_IS_HELD)
+        return held_already();
     recorded *history = shared != NULL ? &shared->recorded : &(struct recorded){ 0 };
     synicboard_reply reply = shared != NULL && !shared->is_recorded
         ? with_notices(&history->board, synicboard_perform(&history->board, event), notices, room)
@@ -138,7 +163,10 @@ synicboard_reply synicboard_act(synicboard_shared *handle, uint8_t actor, const 
 synicboard_reply synicboard_act_absorb(synicboard_shared *handle, uint8_t actor, synicboard_line *line, uint8_t vp, uint8_t part, synicboard_notice *notices, size_t room)
 {
     LINE(line) ROOM(notices, room, synicboard_notice)
-    struct shared *shared = locked(handle);
+    uint8_t outcome;
+    struct shared *shared = locked(handle, &outcome);
+    if (outcome == SYNICBOARD_IS_HELD)
+        return held_already();
     recorded *history = shared != NULL ? &shared->recorded : &(struct recorded){ 0 };
     synicboard_reply reply = shared != NULL && !shared->is_recorded
         ? with_notices(&history->board, synicboard_absorb_line(&history->board, line, vp, part), notices, room)
@@ -150,7 +178,10 @@ synicboard_reply synicboard_act_absorb(synicboard_shared *handle, uint8_t actor,
 synicboard_settled synicboard_settle(synicboard_shared *handle, uint8_t *room, size_t length)
 {
     ROOM(room, length, uint8_t)
-    struct shared *shared = locked(handle);
+    uint8_t outcome;
+    struct shared *shared = locked(handle, &outcome);
+    if (outcome == SYNICBOARD_IS_HELD)
+        return (synicboard_settled){ .kind = outcome };
     synicboard_settled settled = { .kind = SYNICBOARD_NOT_RECORDED };
     if (shared == NULL || shared->is_recorded)
         settled = proved_synicboard_recorded_settle(shared != NULL ? &shared->recorded : &(recorded){ 0 }, room, length);

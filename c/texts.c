@@ -20,6 +20,8 @@ static const char *const outcomes[] = {
     [SYNICBOARD_NOT_RECORDED] = "the shared board has no history",
     [SYNICBOARD_IS_LIVE] = "the board has live pages, and the call serves only others",
     [SYNICBOARD_NOT_LIVE] = "the board has no live pages",
+    [SYNICBOARD_IS_HELD] = "the thread holds the shared board already",
+    [SYNICBOARD_NOT_HELD] = "the thread does not hold the shared board",
     [SYNICBOARD_BAD_PAGE] = "a page is null, not at a multiple of 4096, or there twice",
 };
 

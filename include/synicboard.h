@@ -83,7 +83,9 @@ enum synicboard_outcome {
     SYNICBOARD_NOT_RECORDED = 13,       /* the shared board has no history */
     SYNICBOARD_IS_LIVE = 14,            /* the board has live pages, and the call serves only others */
     SYNICBOARD_NOT_LIVE = 15,           /* the board has no live pages */
-    SYNICBOARD_BAD_PAGE = 16            /* a page is null, not at a multiple of 4096, or there twice */
+    SYNICBOARD_BAD_PAGE = 16,           /* a page is null, not at a multiple of 4096, or there twice */
+    SYNICBOARD_IS_HELD = 17,            /* the thread holds the shared board already */
+    SYNICBOARD_NOT_HELD = 18            /* the thread does not hold the shared board */
 };
 
 /* What an outcome, a refusal, or the kind of a notice means, in words: for the first two those of the comments here.
@@ -114,7 +116,7 @@ void synicboard_close(synicboard *board);
 
 /* Kinds of replies. The comment names the fields of synicboard_reply that the kind uses. */
 enum synicboard_reply_kind {
-    SYNICBOARD_NOT_PERFORMED = 0,       /* `fault` is the outcome: IS_CLOSED, NO_LINE, NO_EVENT, NOT_LIVE, or NO_MEMORY
+    SYNICBOARD_NOT_PERFORMED = 0,       /* `fault` is the outcome: IS_CLOSED, NO_LINE, NO_EVENT, NOT_LIVE, IS_HELD, or NO_MEMORY
                                            if the history of a recorded board cannot grow; nothing has changed */
     SYNICBOARD_DONE = 1,
     SYNICBOARD_VALUE = 2,               /* `value` */
@@ -388,7 +390,7 @@ typedef struct synicboard_next_tick {
 /* What became of an event, and all that the host must do next. Each field after `eoms` says how the board is, not
  * what has changed, so nothing is lost if an answer is not looked at. */
 typedef struct synicboard_answer {
-    synicboard_reply reply;             /* to the event; its `notices` are those of the event alone */
+    synicboard_reply reply;             /* to the event, with the number of its own notices */
     size_t notices;                     /* of the clock and the event: the first of them are in the room */
     uint64_t clock_eoms;                /* the EOMs after the clock has moved, as synicboard_eoms returns them */
     uint64_t eoms;                      /* those after the event */
@@ -865,16 +867,18 @@ synicboard_reply synicboard_act(synicboard_shared *shared, uint8_t actor, const 
 /* The same for synicboard_absorb_line. Other threads may raise through other lines at the same time. */
 synicboard_reply synicboard_act_absorb(synicboard_shared *shared, uint8_t actor, synicboard_line *line, uint8_t vp, uint8_t part, synicboard_notice *notices, size_t room);
 
-/* Acquires the lock and returns the board; null if the handle is closed, and then no lock is held. The
+/* Acquires the lock and returns the board; null if the handle is closed, or if this thread holds the board already. The
  * pointer is valid until the thread calls synicboard_release. Until then, the thread may make any call on the
- * board, such as all events of one exit of the guest, and must make no other call on the shared board. If it
+ * board, such as all events of one exit of the guest; any other call on the shared board returns SYNICBOARD_IS_HELD,
+ * as its fault or its kind, and does nothing. If it
  * closes the board, it opens or restores another one in the same handle before it releases the lock. On a
  * recorded board it must perform no event so, nor close it, nor give it live pages, since the history would lack
  * that, and would be legal no longer. */
 synicboard *synicboard_hold(synicboard_shared *shared);
 
-/* Releases the lock. Does nothing if the handle is closed. */
-void synicboard_release(synicboard_shared *shared);
+/* Releases the lock. Returns SYNICBOARD_OK; SYNICBOARD_IS_CLOSED if the handle is closed; SYNICBOARD_NOT_HELD, and
+ * does nothing, if the thread does not hold the board. */
+uint8_t synicboard_release(synicboard_shared *shared);
 
 /* The result of synicboard_settle. */
 typedef struct synicboard_settled {

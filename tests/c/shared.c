@@ -190,6 +190,32 @@ struct actor {
     pthread_t thread;
 };
 
+/* Holding twice, calls while the thread holds the board, and releasing what it does not hold: an outcome, and no
+ * deadlock. */
+static void test_hold(void)
+{
+    const synicboard_event take = { .kind = SYNICBOARD_TAKE };
+    synicboard_shared shared = SYNICBOARD_SHARED_CLOSED;
+    synicboard_line line = SYNICBOARD_LINE_CLOSED;
+    CHECK_NUMBER(synicboard_release(&shared), SYNICBOARD_IS_CLOSED);
+    CHECK_NUMBER(synicboard_release(NULL), SYNICBOARD_IS_CLOSED);
+    CHECK(synicboard_hold(&shared) == NULL);
+    CHECK_NUMBER(synicboard_open_recorded(&shared, 1, 1, 0), SYNICBOARD_OK);
+    CHECK_NUMBER(synicboard_open_line(&line, 1), SYNICBOARD_OK);
+#ifndef __SANITIZE_THREAD__     /* it reports a lock that is not held, whatever kind of lock it is */
+    CHECK_NUMBER(synicboard_release(&shared), SYNICBOARD_NOT_HELD);
+#endif
+    CHECK(synicboard_hold(&shared) != NULL);
+    CHECK(synicboard_hold(&shared) == NULL);
+    CHECK_FAULT(synicboard_act(&shared, 0, &take, NULL, 0), SYNICBOARD_IS_HELD);
+    CHECK_FAULT(synicboard_act_absorb(&shared, 0, &line, 0, 0, NULL, 0), SYNICBOARD_IS_HELD);
+    CHECK_NUMBER(synicboard_settle(&shared, NULL, 0).kind, SYNICBOARD_IS_HELD);
+    CHECK_NUMBER(synicboard_release(&shared), SYNICBOARD_OK);
+    CHECK_REPLY(synicboard_act(&shared, 0, &take, NULL, 0), SYNICBOARD_NONE_TAKEN);
+    synicboard_close_line(&line);
+    synicboard_close_shared(&shared);
+}
+
 /* Absorbs under the lock, and takes and ends what is next under one hold of it: no other thread comes between. */
 static void *run_actor(void *argument)
 {
@@ -238,6 +264,7 @@ static void test_threads(void)
 int main(void)
 {
     static const struct test tests[] = {
+        { "holding", test_hold },
         { "handles", test_handles },
         { "any board", test_any_board },
         { "without memory", test_without_memory },

@@ -85,6 +85,7 @@ pub struct LocalApic {
 }
 
 /// What a processor forwards to a local APIC outside the board. Bit i of word k is vector 64 * k + i.
+#[must_use = "the board has these vectors no longer"]
 #[derive(Clone, Copy, PartialEq, Eq, Debug, Default)]
 pub struct Forwarded {
     /// All of them.

@@ -42,6 +42,107 @@ impl Reply {
         }
     }
 
+    /// For `?`: whether the event was performed.
+    ///
+    /// ```
+    /// use synicboard::{Board, EventFault, Refusal};
+    ///
+    /// fn set_up(board: &mut Board) -> Result<u64, EventFault> {
+    ///     board.write(0, 0x4000_0080, 1).done()?;
+    ///     board.open_message_port(3, 0, 2, 2).done()?;
+    ///     board.post(3, 1, b"hello").ticket()
+    /// }
+    ///
+    /// let mut board = Board::open(1, 1, 7).unwrap();
+    /// assert_eq!(set_up(&mut board), Ok(7));
+    /// assert_eq!(set_up(&mut board), Err(EventFault::Refused(Refusal::PortOpen)));
+    /// ```
+    ///
+    /// # Errors
+    ///
+    /// Why it was not; then nothing changed.
+    pub fn done(self) -> Result<(), EventFault> {
+        match self {
+            Reply::GeneralProtection => Err(EventFault::GeneralProtection),
+            Reply::Refused(refusal) => Err(EventFault::Refused(refusal)),
+            Reply::NoEvent => Err(EventFault::NoEvent),
+            _ => Ok(()),
+        }
+    }
+
+    /// The value that a register had.
+    ///
+    /// # Errors
+    ///
+    /// As for [`done`](Reply::done).
+    ///
+    /// # Panics
+    ///
+    /// If this is no reply to a read; in the same way for the methods below and their events.
+    pub fn value(self) -> Result<u64, EventFault> {
+        match self {
+            Reply::Value(value) => Ok(value),
+            other => other.failed("a read"),
+        }
+    }
+
+    /// The bytes that a guest loads.
+    ///
+    /// # Errors
+    ///
+    /// As for [`done`](Reply::done).
+    pub fn bytes(self) -> Result<Bytes8, EventFault> {
+        match self {
+            Reply::Bytes(bytes) => Ok(bytes),
+            other => other.failed("a load"),
+        }
+    }
+
+    /// The vector that a processor took, or none.
+    ///
+    /// # Errors
+    ///
+    /// As for [`done`](Reply::done).
+    pub fn vector(self) -> Result<Option<Vector>, EventFault> {
+        match self {
+            Reply::Taken(vector) => Ok(vector),
+            other => other.failed("a take"),
+        }
+    }
+
+    /// The ticket of the message that was posted.
+    ///
+    /// # Errors
+    ///
+    /// As for [`done`](Reply::done).
+    pub fn ticket(self) -> Result<Ticket, EventFault> {
+        match self {
+            Reply::Accepted(ticket) => Ok(ticket),
+            other => other.failed("a post"),
+        }
+    }
+
+    /// Whether a signal set its flag: `false` if the flag was set already.
+    ///
+    /// # Errors
+    ///
+    /// As for [`done`](Reply::done).
+    pub fn is_set(self) -> Result<bool, EventFault> {
+        match self {
+            Reply::FlagWasClear => Ok(true),
+            Reply::FlagWasSet => Ok(false),
+            other => other.failed("a signal"),
+        }
+    }
+
+    /// The fault of a reply that has no result of this event.
+    fn failed<T>(self, event: &str) -> Result<T, EventFault> {
+        match self.done() {
+            Err(fault) => Err(fault),
+            Ok(()) => panic!("{self:?} is no reply to {event}"),
+        }
+    }
+
     /// Decodes a C reply of an open board, with an open line if one was used.
     pub(crate) fn of(plain: sys::synicboard_reply) -> Reply {
         let meant = match plain.kind {
@@ -91,6 +192,36 @@ impl Reply {
 
 fn first(bytes: &[u8; 8], length: u8) -> Option<Bytes8> {
     Bytes8::new(bytes.get(..usize::from(length))?)
+}
+
+/// Why an event was not performed. Nothing changed.
+#[derive(Clone, Copy, PartialEq, Eq, Hash, Debug)]
+pub enum EventFault {
+    /// The access raises #GP.
+    GeneralProtection,
+    /// The board refused it.
+    Refused(Refusal),
+    /// There is no such event: too many bytes, or a number out of range.
+    NoEvent,
+}
+
+impl fmt::Display for EventFault {
+    fn fmt(&self, formatter: &mut fmt::Formatter<'_>) -> fmt::Result {
+        match self {
+            EventFault::GeneralProtection => formatter.write_str("the access raises #GP"),
+            EventFault::Refused(refusal) => write!(formatter, "the event was refused: {refusal}"),
+            EventFault::NoEvent => formatter.write_str("there is no such event"),
+        }
+    }
+}
+
+impl Error for EventFault {
+    fn source(&self) -> Option<&(dyn Error + 'static)> {
+        match self {
+            EventFault::Refused(refusal) => Some(refusal),
+            _ => None,
+        }
+    }
 }
 
 /// Why an event was refused. A refused event changes nothing and emits no notice.

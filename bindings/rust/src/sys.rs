@@ -62,6 +62,10 @@ pub const SYNICBOARD_IS_LIVE: u8 = 14;
 pub const SYNICBOARD_NOT_LIVE: u8 = 15;
 /// Outcome: a page is null, not at a multiple of 4096, or there twice.
 pub const SYNICBOARD_BAD_PAGE: u8 = 16;
+/// Outcome: the thread holds the shared board already.
+pub const SYNICBOARD_IS_HELD: u8 = 17;
+/// Outcome: the thread does not hold the shared board.
+pub const SYNICBOARD_NOT_HELD: u8 = 18;
 
 /// A port is closed.
 pub const SYNICBOARD_PORT_CLOSED: u8 = 0;
@@ -841,7 +845,7 @@ extern "C" {
     /// Acquires the lock and returns the board; null if the handle is closed.
     pub fn synicboard_hold(shared: *mut synicboard_shared) -> *mut synicboard;
     /// Releases the lock.
-    pub fn synicboard_release(shared: *mut synicboard_shared);
+    pub fn synicboard_release(shared: *mut synicboard_shared) -> u8;
     /// Writes the history as a legal trace to a buffer, as much as fits.
     pub fn synicboard_settle(
         shared: *mut synicboard_shared,

@@ -1,5 +1,7 @@
 //! Numbers whose range is in the type.
 
+use core::error::Error;
+use core::fmt;
 use core::num::NonZeroU8;
 
 /// A time of the partition reference counter, in units of 100 ns.
@@ -107,3 +109,38 @@ pub enum Owner {
     /// No page: the number is outside the guest's memory.
     Nothing,
 }
+
+/// A number that is out of the range of a processor, a source or a vector.
+#[derive(Clone, Copy, PartialEq, Eq, Hash, Debug)]
+pub struct OutOfRange(u8);
+
+impl fmt::Display for OutOfRange {
+    fn fmt(&self, formatter: &mut fmt::Formatter<'_>) -> fmt::Result {
+        write!(formatter, "{} is out of range", self.0)
+    }
+}
+
+impl Error for OutOfRange {}
+
+/// How a number with a range is read and printed.
+macro_rules! number {
+    ($kind:ident, $form:literal) => {
+        impl TryFrom<u8> for $kind {
+            type Error = OutOfRange;
+
+            fn try_from(number: u8) -> Result<$kind, OutOfRange> {
+                $kind::new(number).ok_or(OutOfRange(number))
+            }
+        }
+
+        impl fmt::Display for $kind {
+            fn fmt(&self, formatter: &mut fmt::Formatter<'_>) -> fmt::Result {
+                write!(formatter, $form, self.number())
+            }
+        }
+    };
+}
+
+number!(Vp, "{}");
+number!(Sint, "SINT{}");
+number!(Vector, "{:02x}");

@@ -7,7 +7,8 @@ use std::sync::Mutex;
 use std::thread;
 use synicboard::msr::{EOI, SCONTROL, SIEFP, SIMP, SINT0, STIMER0_CONFIG, STIMER0_COUNT, SVERSION};
 use synicboard::{
-    check, format_entry, replay, Board, Bytes8, End, Event, Line, Notice, OpenFault, Owner, PayloadBytes, PortShape,
+    check, format_entry, replay, AnswerRoom, Board, Bytes8, End, Event, EventFault, Line, Notice, OpenFault, Owner, PayloadBytes,
+    PortShape,
     Refusal, Reply, RestoreFault, Sint, FormatFault, TimerId, Vector, Verdict, Vp, MOST_NOTICES,
 };
 
@@ -540,4 +541,65 @@ fn what_was_not_performed_has_no_entry() {
     let mut room = [b'.'; 8];
     assert_eq!(format_entry(0, &Event::Take { vp: 0 }, &Reply::NoEvent, &mut room), Err(FormatFault::NoEvent));
     assert_eq!(room, [b'.'; 8]);
+}
+
+#[test]
+fn a_step_moves_the_clock_and_says_what_to_do() {
+    let (mut board, mut room) = (Board::open(2, 1, 0).unwrap(), AnswerRoom::new().unwrap());
+    for (register, value) in [(0x4000_0080, 1), (0x4000_00b1, 10), (0x4000_00b0, 0x1403)] {
+        assert_eq!(board.write(1, register, value), Reply::Done);
+    }
+    let write = Event::Write { vp: 1, register: 0x4000_0070, value: 0 };
+    let answer = board.step(9, Some(&write), 0, &mut room);
+    assert_eq!((answer.reply, answer.next, answer.alarm, room.notices().len()), (Some(Reply::Done), 0, Some(10), 0));
+    let answer = board.step(25, None, 3, &mut room);
+    assert_eq!((answer.reply, answer.next, answer.end_assist, answer.alarm), (None, 2, 3, Some(26)));
+    let vp = Vp::new(1).unwrap();
+    assert_eq!(room.notices().next(), Some(Notice::Expired { vp, index: 0, due: 10 }));
+    assert_eq!((room.notices().len(), board.next_bits(), answer.clock_eoms, answer.eoms), (2, 2, 0, 0));
+    let answer = board.step(25, Some(&Event::Take { vp: 1 }), 2, &mut room);
+    assert_eq!((answer.reply, answer.next, answer.end_assist), (Some(Reply::Taken(Vector::new(0x40))), 0, 0));
+}
+
+#[test]
+fn ports_are_found_and_sources_asserted() {
+    let mut board = Board::open(2, 1, 0).unwrap();
+    let (vp, sint) = (Vp::new(1).unwrap(), Sint::new(2).unwrap());
+    assert_eq!(board.open_message_port(3, 1, 2, 5), Reply::Done);
+    assert_eq!(board.open_event_port(4, 1, 2, 8, 64), Reply::Done);
+    assert_eq!(board.port(3), Some((vp, sint, PortShape::Messages { buffers: 5 })));
+    assert_eq!(board.port(4), Some((vp, sint, PortShape::Flags { base: 8, count: 64 })));
+    assert_eq!((board.port(5), board.port(255)), (None, None));
+    assert_eq!(board.assert_source(1, 2), Reply::Done);
+    assert_eq!(board.next_bits(), 0);
+    assert_eq!(board.write(1, 0x4000_0092, 0x50), Reply::Done);
+    assert_eq!(board.assert_source(1, 2), Reply::Done);
+    assert_eq!(board.next_bits(), 2);
+    assert_eq!(board.assert_source(2, 2), Reply::Refused(Refusal::NoSuchProcessor));
+    assert_eq!(board.assert_source(1, 16), Reply::NoEvent);
+}
+
+#[test]
+fn replies_are_results() {
+    let mut board = Board::open(1, 1, 7).unwrap();
+    assert_eq!(board.read(0, 0x4000_0081).value(), Ok(1));
+    assert_eq!(board.read(0, 0x4000_0000).value(), Err(EventFault::GeneralProtection));
+    assert_eq!(board.load(0, 2).bytes().map(|bytes| bytes.as_ref().len()), Ok(2));
+    assert_eq!(board.load(4096, 2).bytes(), Err(EventFault::Refused(Refusal::OutsideSpace)));
+    assert_eq!(board.take(0).vector(), Ok(None));
+    assert_eq!(board.take(1).vector(), Err(EventFault::Refused(Refusal::NoSuchProcessor)));
+    assert_eq!(board.post(3, 1, &[0; 241]).ticket(), Err(EventFault::NoEvent));
+    assert_eq!(board.signal(4, 0).is_set(), Err(EventFault::Refused(Refusal::UnknownPort)));
+    let fault = EventFault::Refused(Refusal::UnknownPort);
+    assert_eq!(fault.to_string(), "the event was refused: the port is not open, or the board has none of that number");
+    assert!(fault.source().is_some() && EventFault::NoEvent.source().is_none());
+    assert_eq!((Vp::try_from(63).unwrap().to_string(), Vp::try_from(64).unwrap_err().to_string()), ("63".into(), "64 is out of range".into()));
+    assert_eq!((Sint::try_from(2).unwrap().to_string(), Vector::try_from(0x50).unwrap().to_string()), ("SINT2".into(), "50".into()));
+    assert!(Sint::try_from(16).is_err() && Vector::try_from(15).is_err());
+}
+
+#[test]
+#[should_panic(expected = "Done is no reply to a read")]
+fn a_reply_to_another_event_has_no_value() {
+    let _ = Board::open(1, 1, 0).unwrap().write(0, 0x4000_0080, 1).value();
 }

@@ -44,7 +44,9 @@ fn translated(declaration: &str) -> String {
     let (front, array) = declaration.split_once('[').unwrap_or((declaration, ""));
     let written = front.trim_end_matches(|letter: char| letter.is_alphanumeric() || letter == '_');
     let name = &front[written.len()..];
-    let word = written.trim_start_matches("const ").trim_end_matches([' ', '*']);
+    let outer = if written.contains("*const ") { "*const " } else { "*mut " };
+    let word = written.trim_start_matches("const ").replace("*const", "");
+    let word = word.trim_end_matches([' ', '*']);
     let number = word.strip_prefix("uint").and_then(|word| word.strip_suffix("_t"));
     let word = match word {
         "void" => "c_void".to_string(),
@@ -57,7 +59,7 @@ fn translated(declaration: &str) -> String {
         0 if array.is_empty() => word,
         0 => format!("[{word}; {array}"),
         1 => format!("{pointer}{word}"),
-        _ => format!("*mut {pointer}{word}"),
+        _ => format!("{outer}{pointer}{word}"),
     };
     format!("{name}: {kind}")
 }

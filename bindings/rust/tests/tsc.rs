@@ -13,6 +13,15 @@ fn a_page_has_the_time_that_it_was_made_for() {
 }
 
 #[test]
+fn a_time_comes_at_its_first_tick() {
+    let page = TscPage::new(2_700_000_000, 1_000_000_000_000, 5).unwrap();
+    for time in 5..500 {
+        let tsc = page.until(time);
+        assert_eq!((page.time_at(tsc), page.time_at(tsc - 1)), (time, time - 1));
+    }
+}
+
+#[test]
 fn a_slow_tsc_has_no_page() {
     assert_eq!(TscPage::new(10_000_000, 0, 1), None);
     assert_eq!(TscPage::new(10_000_001, 0, 1).unwrap().scale(), 18446742229035328712);

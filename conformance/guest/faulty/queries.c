@@ -164,7 +164,7 @@ synicboard_reply synicboard_forward(synicboard *held, uint8_t vp, synicboard_for
     return (synicboard_reply){ .kind = SYNICBOARD_NOT_PERFORMED };
 }
 
-synicboard_end synicboard_save(const synicboard *held, uint8_t *room, size_t length)
+synicboard_end synicboard_save(synicboard *held, uint8_t *room, size_t length)
 {
     return (synicboard_end){ .kind = SYNICBOARD_NO_MEMORY };
 }

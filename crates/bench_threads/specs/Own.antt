@@ -1,7 +1,7 @@
 -- Ownership by a board.
 use Rattle.std.specs.Prelude.{◌≡◌, true}
 use Rattle.board_threads.specs.Sharing.{Acting}
-use Rattle.board_threads.specs.Settling.{only_raises}
+use Rattle.actor_calls.specs.Absorbed.{only_raises}
 use Rattle.posted_words.specs.Words.{Words, Token}
 use Rattle.bench_threads.specs.declared.worker.Worker.{Worker}
 

@@ -6,13 +6,15 @@ use mathlib.Core.List.{map-append}
 use Rattle.synic_board.specs.declared.history.Entry.{Entry}
 use Rattle.posted_words.specs.Settled.{Settled}
 use Rattle.posted_words.specs.Words.{Token, token, actions_of}
-use Rattle.board_threads.specs.History.{Call}
+use Rattle.actor_calls.specs.Calls.{Call}
 use Rattle.board_threads.specs.Sharing.{Acting}
-use Rattle.board_threads.specs.Sweeps.{sweeps_of}
-use Rattle.board_threads.specs.Settling.{AreAllOf, AreAbsorbed, only_raises, calls_held, calls_given}
+use Rattle.actor_calls.specs.Sweeps.{sweeps_of}
+use Rattle.actor_calls.specs.Absorbed.{AreAbsorbed, only_raises}
+use Rattle.board_threads.specs.Settling.{AreAllOf, calls_held, calls_given}
 use Rattle.board_threads.specs.declared.settling.ActorCalls.{ActorCalls}
-use Rattle.board_threads.proofs.Absorbed.{absorbed}
-use Rattle.board_threads.proofs.Counting.{counted, sum-map}
+use Rattle.actor_calls.proofs.Absorbed.{absorbed}
+use Rattle.actor_calls.proofs.Absorbed.{sum-map}
+use Rattle.board_threads.proofs.Counting.{counted}
 
 abbrev calls_in : ActorCalls → List Call
 calls_in a = a.calls.items

@@ -10,14 +10,10 @@ use Rattle.std.proofs.lemmas.List.Sums.{sum_by-cons}
 use Rattle.synic_board.specs.declared.event.Event.{Event}
 use Rattle.synic_board.specs.declared.event.Reply.{Reply}
 use Rattle.synic_board.specs.declared.history.Entry.{Entry}
-use Rattle.board_threads.specs.History.{Call, call_of, calls_by}
+use Rattle.actor_calls.specs.Calls.{Call, call_of, calls_by}
+use Rattle.actor_calls.proofs.Absorbed.{sum-map}
 use Rattle.board_threads.specs.Settling.{HaveOwnNumbers, AreAllOf}
 use Rattle.board_threads.specs.declared.settling.ActorCalls.{ActorCalls}
-
-module _ {A B : Type 0} where
-  pub sum-map : (f : B → ℕ) (g : A → B) (xs : List A) → sum_by f (map g xs) ≡ sum_by (λ x. f (g x)) xs
-  sum-map f g [] = refl
-  sum-map f g (x ∷ xs) = omega (arith, sum_by-cons f (g x) (map g xs), sum_by-cons (λ y. f (g y)) x xs, sum-map f g xs)
 
 -- the calls without one number's include no entry of another
 others : (n m : ℕ) (h : List Entry) → n ≢ m

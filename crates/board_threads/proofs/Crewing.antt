@@ -11,8 +11,8 @@ use Rattle.posted_words.specs.declared.line.Raised.{Raised}
 use Rattle.posted_words.specs.Answers.{is_fresh}
 use Rattle.posted_words.specs.Words.{Token, token, actions_of, raise_of}
 use Rattle.board_threads.specs.Sharing.{Acting, new_actor}
-use Rattle.board_threads.specs.Settling.{only_raises}
-use Rattle.board_threads.specs.Sweeps.{is_absorb}
+use Rattle.actor_calls.specs.Absorbed.{only_raises}
+use Rattle.actor_calls.specs.Sweeps.{is_absorb}
 use Rattle.board_threads.specs.Judging.{is_bad_script, is_bad_raise, is_bad_line, has_bad_step}
 use Rattle.board_threads.specs.Crew.{raises_of, log_of, logs_of, HasEach, lists}
 use Rattle.board_threads.specs.inside.Work.{IsNewActor, IsNewLine, IsThere, HasActed, HasRaised, HaveWorked}

@@ -7,9 +7,10 @@ use Rattle.atomic_table.specs.Seated.{TableId}
 use Rattle.synic_board.specs.State.{State}
 use Rattle.posted_words.specs.declared.line.Raised.{Raised}
 use Rattle.posted_words.specs.Words.{Token, actions_of}
-use Rattle.board_threads.specs.History.{calls_by}
+use Rattle.actor_calls.specs.Calls.{calls_by}
 use Rattle.board_threads.specs.Sharing.{Acting}
-use Rattle.board_threads.specs.Settling.{IsSettled, AreAbsorbed, calls_held, calls_given}
+use Rattle.actor_calls.specs.Absorbed.{AreAbsorbed}
+use Rattle.board_threads.specs.Settling.{IsSettled, calls_held, calls_given}
 use Rattle.board_threads.specs.Crew.{EachFollows, IsCrewHistory, HasEach, IsCrewEnd, lists, logs_of}
 use Rattle.board_threads.specs.inside.Work.{InPlace, HaveWorked}
 use Rattle.board_threads.specs.declared.crew.CrewEnd.{CrewEnd}

@@ -11,9 +11,9 @@ use Rattle.posted_words.specs.declared.rule.Action.{Action}
 use Rattle.posted_words.specs.declared.line.Raised.{Raised}
 use Rattle.posted_words.specs.Answers.{is_fresh}
 use Rattle.posted_words.specs.Words.{raise_of}
-use Rattle.board_threads.specs.History.{Call}
+use Rattle.actor_calls.specs.Calls.{Call}
 use Rattle.board_threads.specs.Sharing.{Acting, acting}
-use Rattle.board_threads.specs.Sweeps.{is_refusal}
+use Rattle.actor_calls.specs.Sweeps.{is_refusal}
 use Rattle.board_threads.specs.Crew.{IsStep, AreSteps, acts, last_step, raises_of, log_of}
 use Rattle.board_threads.specs.declared.script.Step.{Step}
 use Rattle.board_threads.specs.declared.script.Step.TheVariants.{Act, Sweep}

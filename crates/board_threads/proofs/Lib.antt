@@ -1,10 +1,7 @@
 pub mod Counts
-pub mod Sweeping
 pub mod Numbering
-pub mod Taking
 pub mod Matching
 pub mod Counting
-pub mod Absorbed
 pub mod Absorbs
 pub mod Following
 pub mod Started

@@ -8,7 +8,7 @@ use Rattle.std.proofs.lemmas.List.Elements.{filter-append}
 use Rattle.synic_board.specs.declared.event.Event.{Event}
 use Rattle.synic_board.specs.declared.event.Reply.{Reply}
 use Rattle.synic_board.specs.declared.history.Entry.{Entry}
-use Rattle.board_threads.specs.History.{Call, call_of, calls_by}
+use Rattle.actor_calls.specs.Calls.{Call, call_of, calls_by}
 
 pub calls_by-append : (n : ℕ) (g h : List Entry) → calls_by n (g ++ h) ≡ calls_by n g ++ calls_by n h
 calls_by-append n g h =

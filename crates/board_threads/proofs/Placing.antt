@@ -11,7 +11,7 @@ use Rattle.std.proofs.lemmas.List.Sums.{sum_by-cons}
 use Rattle.atomic_table.specs.Seated.{TableId}
 use Rattle.synic_board.specs.declared.event.Event.{Event}
 use Rattle.synic_board.specs.declared.history.Entry.{Entry}
-use Rattle.board_threads.specs.History.{Call, call_of, calls_by}
+use Rattle.actor_calls.specs.Calls.{Call, call_of, calls_by}
 use Rattle.board_threads.specs.Sharing.{Acting}
 use Rattle.board_threads.specs.Settling.{calls_held, calls_given}
 use Rattle.board_threads.specs.Crew.{AreSteps, acts, last_step, last_steps, EachFollows, IsCrewHistory, lists}

@@ -10,9 +10,10 @@ use Rattle.posted_words.specs.declared.rule.Action.{Action}
 use Rattle.posted_words.specs.declared.line.Raised.{Raised}
 use Rattle.posted_words.specs.Answers.{is_fresh}
 use Rattle.posted_words.specs.Words.{raise_of}
-use Rattle.board_threads.specs.History.{Call, call_of, calls_by}
-use Rattle.board_threads.specs.Sweeps.{is_refusal}
-use Rattle.board_threads.specs.Settling.{AreAbsorbed, IsSettled}
+use Rattle.actor_calls.specs.Calls.{Call, call_of, calls_by}
+use Rattle.actor_calls.specs.Sweeps.{is_refusal}
+use Rattle.actor_calls.specs.Absorbed.{AreAbsorbed}
+use Rattle.board_threads.specs.Settling.{IsSettled}
 use Rattle.board_threads.specs.declared.crew.CrewEnd.{CrewEnd}
 use Rattle.board_threads.specs.declared.script.Scripts.{Scripts}
 use Rattle.board_threads.specs.declared.script.Setup.{Setup}

@@ -3,7 +3,7 @@ use Rattle.std.specs.Prelude.{◌≡◌, ℕ, ◌+◌, ◌*◌, ◌≤◌, ◌||
 use Rattle.std.specs.List.{list_any, sum_by}
 use Rattle.std.specs.Global.{Global}
 use Rattle.synic_board.specs.State.{AreSizes}
-use Rattle.board_threads.specs.Sweeps.{is_absorb}
+use Rattle.actor_calls.specs.Sweeps.{is_absorb}
 use Rattle.board_threads.specs.declared.script.Step.{Step}
 use Rattle.board_threads.specs.declared.script.Step.TheVariants.{Act, Sweep}
 use Rattle.board_threads.specs.declared.script.Setup.{Setup}

@@ -1,5 +1,3 @@
-pub mod History
-pub mod Sweeps
 pub mod Sharing
 pub mod Settling
 pub mod Judging

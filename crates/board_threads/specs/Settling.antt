@@ -9,8 +9,8 @@ use Rattle.posted_words.specs.declared.rule.Action.{Action}
 use Rattle.posted_words.specs.declared.rule.Action.TheVariants.{Raise, Sweep}
 use Rattle.posted_words.specs.Action.{times_raised}
 use Rattle.posted_words.specs.Settled.{all_fresh}
-use Rattle.board_threads.specs.History.{Call, calls_by}
-use Rattle.board_threads.specs.Sweeps.{times_absorbed}
+use Rattle.actor_calls.specs.Calls.{Call, calls_by}
+use Rattle.actor_calls.specs.Sweeps.{times_absorbed}
 use Rattle.board_threads.specs.Sharing.{Acting}
 use Rattle.board_threads.specs.declared.settling.ActorCalls.{ActorCalls}
 use Rattle.board_threads.specs.declared.settling.Ended.{Ended}
@@ -35,20 +35,6 @@ pub record IsSettled (start : State) (e : Ended) : Type 0 where
   -- the history leads to the state of the board
   pub leads : e.board.state ≡ leads_to start e.history.items
   pub actors : AreAllOf e.history.items e.actors.items
-
--- The raises of lines with these logs, at the n words of a board.
-pub record AreAbsorbed (n : ℕ) (logs : List (List Action)) (history : List Entry) (standing : List ℕ) : Type 0 where
-  pub words : length standing ≡ n
-  -- each Fresh raise was absorbed once, or its bit is set
-  pub even : (w b : ℕ) → w < n → all_fresh logs w b ≡ times_absorbed w b history + bit_at (slice_index standing w) b
-  -- if a line raised a bit at all, some raise of it was Fresh
-  pub some : (w b : ℕ) → 0 < sum_by (times_raised w b) logs → 0 < all_fresh logs w b
-
--- a line has swept nothing
-abbrev pub only_raises : List Action → Bool
-only_raises [] = true
-only_raises (Raise word bit fresh ∷ log) = only_raises log
-only_raises (Sweep word bits ∷ log) = false
 
 -- the number and the calls of an actor, before and after settling
 abbrev pub calls_held : Acting → ℕ × List Call

@@ -4,7 +4,7 @@ use Rattle.atomic_table.specs.Seated.{TableId}
 use Rattle.posted_words.specs.declared.rule.Action.{Action}
 use Rattle.posted_words.specs.Words.{AreWordSizes}
 use Rattle.synic_board.specs.State.{AreSizes as AreBoardSizes}
-use Rattle.board_threads.specs.History.{Call}
+use Rattle.actor_calls.specs.Calls.{Call}
 
 -- the valid sizes of a shared board: those of a board and of its posted words, which each actor sweeps
 pub record AreSharedSizes (processors pages actors lines : ℕ) : Type 0 where

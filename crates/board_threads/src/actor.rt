@@ -3,7 +3,7 @@ ghost use Rattle.std.specs.Prelude.{◌≡◌, ℕ, ◌<◌, true, false, [], �
 ghost use Rattle.posted_words.specs.Words.{token};
 ghost use Rattle.synic_board.specs.State.{processors};
 ghost use Rattle.synic_board.specs.declared.event.Event.TheVariants.{Absorb};
-ghost use Rattle.board_threads.specs.Sweeps.{is_absorb, is_refusal, sweep_in, sweeps_of};
+ghost use Rattle.actor_calls.specs.Sweeps.{is_absorb, is_refusal, sweep_in, sweeps_of};
 ghost use Rattle.board_threads.specs.Sharing.{acting};
 
 use crate::origin::Origin;
@@ -43,7 +43,7 @@ pub struct Actor {
 impl Model for Actor {
     ghost use Rattle.std.specs.Prelude.{◌≡◌};
     ghost use Rattle.board_threads.specs.Sharing.{Acting, acting};
-    ghost use Rattle.board_threads.specs.Sweeps.{sweeps_of};
+    ghost use Rattle.actor_calls.specs.Sweeps.{sweeps_of};
 
     ghost Value = { Acting };
 

@@ -3,7 +3,7 @@ ghost use base.Stored.{Coded-set};
 ghost use Rattle.std.specs.Prelude.{◌≡◌, ◌↔◌, ◌≤◌, length, true, [], ◌∷◌, ◌++◌, IfOk, OnOk, OnErr, IsErrOf};
 ghost use Rattle.posted_words.specs.Words.{token};
 ghost use Rattle.synic_board.specs.declared.event.Event.TheVariants.{Absorb};
-ghost use Rattle.board_threads.specs.Sweeps.{is_refusal, sweep_in};
+ghost use Rattle.actor_calls.specs.Sweeps.{is_refusal, sweep_in};
 ghost use Rattle.synic_board.specs.Sound.{PayloadFits};
 ghost use Rattle.synic_board.specs.State.{processors};
 ghost use Rattle.synic_board.specs.inside.Codes.{state_code};

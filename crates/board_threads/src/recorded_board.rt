@@ -6,8 +6,9 @@ ghost use Rattle.synic_board.specs.declared.event.Event.TheVariants.{Absorb};
 ghost use Rattle.posted_words.specs.Words.{AreWordSizes, shared_words, token, with_last_step, raise_of, actions_of};
 ghost use Rattle.posted_words.specs.Answers.{is_fresh};
 ghost use Rattle.board_threads.specs.Sharing.{AreSharedSizes, acting, new_actor};
-ghost use Rattle.board_threads.specs.Sweeps.{is_absorb, is_refusal, sweep_in};
-ghost use Rattle.board_threads.specs.Settling.{IsSettled, AreAbsorbed, only_raises, calls_held, calls_given};
+ghost use Rattle.actor_calls.specs.Sweeps.{is_absorb, is_refusal, sweep_in};
+ghost use Rattle.actor_calls.specs.Absorbed.{AreAbsorbed, only_raises};
+ghost use Rattle.board_threads.specs.Settling.{IsSettled, calls_held, calls_given};
 
 use crate::actor::{Actor, CallFault};
 use crate::opening::{are_word_sizes, open_words};

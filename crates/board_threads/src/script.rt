@@ -1,7 +1,7 @@
 // The scripts of a crew, and their validation.
 ghost use Rattle.std.specs.Prelude.{◌≡◌, ◌↔◌, ◌≤◌, IsTrue, vec_len};
 ghost use Rattle.std.specs.List.{list_any, sum_by};
-ghost use Rattle.board_threads.specs.Sweeps.{is_absorb};
+ghost use Rattle.actor_calls.specs.Sweeps.{is_absorb};
 ghost use Rattle.board_threads.specs.Judging.{IsSized, IsSizedOn, AreScriptSizes, is_bad_step, is_bad_script, is_bad_raise, is_bad_line, has_bad_step};
 
 use crate::recorded::MOST;

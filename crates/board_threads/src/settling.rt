@@ -2,8 +2,8 @@
 ghost use Rattle.std.specs.Prelude.{◌≡◌, ◌≢◌, IsTrue, IfOk, All, length, map};
 ghost use Rattle.std.specs.List.{sum_by};
 ghost use Rattle.posted_words.specs.Words.{token};
-ghost use Rattle.board_threads.specs.History.{calls_by};
-ghost use Rattle.board_threads.specs.Sweeps.{sweeps_of};
+ghost use Rattle.actor_calls.specs.Calls.{calls_by};
+ghost use Rattle.actor_calls.specs.Sweeps.{sweeps_of};
 ghost use Rattle.board_threads.specs.Settling.{HaveOwnNumbers, AreAllOf, calls_held, calls_given};
 ghost use Rattle.board_threads.specs.Sharing.{Acting};
 

@@ -1,6 +1,6 @@
 // The work of actor 0 and of the workers, each in its thread.
 ghost use Rattle.std.specs.Prelude.{◌≡◌, ◌<◌, ◌≤◌, ◌++◌, [], List, IfOk};
-ghost use Rattle.board_threads.specs.History.{Call};
+ghost use Rattle.actor_calls.specs.Calls.{Call};
 ghost use Rattle.board_threads.specs.Crew.{AreSteps, acts, last_steps};
 ghost use Rattle.board_threads.specs.inside.Work.{IsThere, HasActed, HasRaised};
 

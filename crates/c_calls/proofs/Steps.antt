@@ -10,14 +10,15 @@ use Rattle.c_terms.specs.declared.notice.CNotice.{CNotice}
 use Rattle.c_terms.specs.Notices.{notice_to_c}
 use Rattle.c_terms.specs.Replies.{reply_to_c}
 use Rattle.c_terms.specs.Rooms.{Fronts}
-use Rattle.c_calls.specs.Performing.{PerformsSome}
+use Rattle.c_calls.specs.inside.Some.{PerformsSome}
 use Rattle.c_calls.specs.Stepping.{IsAdvanced, IsStep}
 
 pub of-event : (now : ℕ) (event : Option Event) (board mid after : AnyBoard) (answer : Reply) (first : List Notice)
     (count eoms : ℕ) (before room : List CNotice)
     → IsAdvanced (nat_lt (state_in board).moment now) now board mid first eoms → PerformsSome event mid after answer
     → count ≡ length (first ++ notices_in after) → Fronts (map notice_to_c (first ++ notices_in after)) before room
-    → IsStep now event board after (reply_to_c answer (length (notices_in after))) count eoms (eoms_in after) before room
+    → IsStep now event board after (reply_to_c answer (length (notices_in after))) count eoms (eoms_in after) before
+    room
 of-event now None board mid after answer first count eoms before room advanced performs counted fronts =
     absurd performs
 of-event now (Some event) board mid after answer first count eoms before room advanced performs counted fronts =

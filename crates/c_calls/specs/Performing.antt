@@ -11,7 +11,6 @@ use Rattle.synic_board.specs.declared.event.Event.TheVariants.{Post, Store, Asse
 use Rattle.synic_board.specs.declared.event.Reply.{Reply}
 use Rattle.synic_board.specs.State.{State}
 use Rattle.synic_board.specs.Effects.{Outcome}
-use Rattle.synic_board.specs.Step.{step}
 
 -- an outcome, with its reply as a plain struct
 abbrev pub outcome_to_c : Outcome → State × CReply × List Notice
@@ -21,11 +20,6 @@ outcome_to_c (s, reply, notices) = (s, reply_to_c reply (length notices), notice
 abbrev pub IsPerformedOn : AnyBoard → Event → AnyBoard → CReply → Type 0
 IsPerformedOn board event after reply =
     (answer : Reply) × PerformsOn board event after answer × (reply ≡ reply_to_c answer (length (notices_in after)))
-
--- a board performs an event, if there is one
-abbrev pub PerformsSome : Option Event → AnyBoard → AnyBoard → Reply → Type 0
-PerformsSome None board after answer = ⊥
-PerformsSome (Some event) board after answer = PerformsOn board event after answer
 
 -- a call performs an event on the board of a handle: without a board, or without an event, nothing changes
 abbrev pub IsPerformed : Option Event → Option AnyBoard → Option AnyBoard → CReply → Type 0

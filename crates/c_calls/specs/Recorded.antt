@@ -1,7 +1,6 @@
 -- What a call does to a board with its history, and what it returns.
 use Rattle.std.specs.Prelude.{◌≡◌, ◌⊎◌, ℕ, List, length, map, Option, Some, None}
 use Rattle.board_terms.specs.declared.notices.Notice.{Notice}
-use Rattle.c_handles.specs.declared.any_board.AnyBoard.TheVariants.{Plain}
 use Rattle.c_handles.specs.Histories.{HistoryModel, with_entry}
 use Rattle.c_handles.specs.Lines.{LineModel, IsSwept}
 use Rattle.c_handles.specs.Recorded.{Recorded}

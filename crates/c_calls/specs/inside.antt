@@ -1,2 +1,3 @@
 -- What helpers of the calls promise. Callers need none of it.
 pub mod Opening
+pub mod Some

@@ -2,7 +2,8 @@
 ghost use Rattle.std.specs.Prelude.{◌≡◌, ◌≤◌, Some, None, IfSome, IfNone, length};
 ghost use Rattle.c_terms.specs.Events.{event_from_c};
 ghost use Rattle.c_calls.specs.Looks.{earliest_of};
-ghost use Rattle.c_calls.specs.Performing.{IsPerformed, PerformsSome, post_from_c, store_from_c, assert_from_c, send_from_c};
+ghost use Rattle.c_calls.specs.inside.Some.{PerformsSome};
+ghost use Rattle.c_calls.specs.Performing.{IsPerformed, post_from_c, store_from_c, assert_from_c, send_from_c};
 ghost use Rattle.synic_board.specs.declared.event.Event.TheVariants as event;
 ghost use Rattle.board_terms.specs.declared.messages.PortShape.TheVariants as shape;
 ghost use Rattle.c_handles.specs.declared.any_board.AnyBoard.TheVariants.{Live};

@@ -14,6 +14,7 @@ use synic_regs::{Register, decode};
 
 /// The bits of a source that is masked, and of one that is polling.
 const MASKED: u64 = 0x1_0000;
+
 const POLLING: u64 = 0x4_0000;
 
 /// A port: `kind` is 1 for messages, 2 for event flags, and 0 if it is not open; then all else is 0.

@@ -206,7 +206,8 @@ impl LiveBoard {
 
     /// Refreshes the live pages of a processor, if it is on the board.
     fn refresh_if(&mut self, vp: u8, notices: &mut Notices)
-        ensures refreshed { IsRefreshedIf (nat_lt vp (processors self.old.board.state)) vp self.old self.new notices.new }
+        ensures refreshed { IsRefreshedIf (nat_lt vp (processors self.old.board.state)) vp self.old self.new
+            notices.new }
         ensures few { length notices.new ≤ 32 }
     {
         notices.clear();
@@ -217,7 +218,8 @@ impl LiveBoard {
 
     /// Refreshes the live pages of the processor whose page the guest sees at a page number, if there is one.
     fn refresh_under(&mut self, page: u64, notices: &mut Notices)
-        ensures refreshed { IsRefreshedUnder (owner_of (space_of self.old.board.state) page) self.old self.new notices.new }
+        ensures refreshed { IsRefreshedUnder (owner_of (space_of self.old.board.state) page) self.old self.new
+            notices.new }
         ensures few { length notices.new ≤ 32 }
     {
         match self.board().owner(page) {

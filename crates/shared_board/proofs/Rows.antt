@@ -10,7 +10,7 @@ use mathlib.Core.Option.{some, some-injective, some-ne-none}
 use lib.ListN.{get_elem?}
 use Rattle.synic_board.specs.declared.history.Entry.{Entry}
 use Rattle.ghost_history.specs.Rows.{Row, row}
-use Rattle.board_threads.proofs.Taking.{taken-on}
+use Rattle.actor_calls.proofs.Taking.{taken-on}
 use Rattle.shared_board.specs.Calling.{Calling}
 use Rattle.shared_board.specs.inside.Rostered.{entries_by, rows_of}
 

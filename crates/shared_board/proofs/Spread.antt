@@ -13,11 +13,11 @@ use Rattle.synic_board.specs.State.{State}
 use Rattle.synic_board.specs.declared.event.Event.{Event}
 use Rattle.synic_board.specs.declared.event.Reply.{Reply}
 use Rattle.synic_board.specs.declared.history.Entry.{Entry}
-use Rattle.board_threads.specs.History.{Call, call_of, calls_by}
-use Rattle.board_threads.specs.Sweeps.{sweeps_of}
-use Rattle.board_threads.specs.Settling.{AreAbsorbed}
-use Rattle.board_threads.proofs.Counting.{sum-map}
-use Rattle.board_threads.proofs.Absorbed.{absorbed}
+use Rattle.actor_calls.specs.Calls.{Call, call_of, calls_by}
+use Rattle.actor_calls.specs.Sweeps.{sweeps_of}
+use Rattle.actor_calls.specs.Absorbed.{AreAbsorbed}
+use Rattle.actor_calls.proofs.Absorbed.{sum-map}
+use Rattle.actor_calls.proofs.Absorbed.{absorbed}
 use Rattle.shared_board.specs.Calling.{Calling}
 use Rattle.shared_board.specs.Sweeping.{OnlyRaises, swept_by}
 use Rattle.shared_board.specs.Witnessed.{IsEnded}

@@ -9,8 +9,8 @@ use Rattle.synic_board.specs.declared.history.Entry.{Entry}
 use Rattle.published_words.specs.Values.{word_count}
 use Rattle.published_words.specs.Words.{Logs, Watching, log_at, IsWithin}
 use Rattle.published_words.specs.Storing.{IsCurrent}
-use Rattle.board_threads.specs.History.{Call, call_of, calls_by}
-use Rattle.board_threads.proofs.Taking.{taken-on}
+use Rattle.actor_calls.specs.Calls.{Call, call_of, calls_by}
+use Rattle.actor_calls.proofs.Taking.{taken-on}
 use Rattle.shared_board.specs.Calling.{Calling}
 use Rattle.shared_board.specs.Witnessed.{IsEnded}
 

@@ -2,7 +2,7 @@
 use Rattle.std.specs.Prelude.{ℕ, List, ◌++◌, ◌∷◌, []}
 use Rattle.synic_board.specs.declared.event.Event.{Event}
 use Rattle.synic_board.specs.declared.event.Reply.{Reply}
-use Rattle.board_threads.specs.History.{Call}
+use Rattle.actor_calls.specs.Calls.{Call}
 
 -- its number, and its calls in order
 pub record Calling : Type 0 where

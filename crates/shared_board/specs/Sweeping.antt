@@ -2,8 +2,8 @@
 use Rattle.std.specs.Prelude.{◌≡◌, List, true}
 use Rattle.posted_words.specs.declared.rule.Action.{Action}
 use Rattle.posted_words.specs.Words.{Token}
-use Rattle.board_threads.specs.Settling.{only_raises}
-use Rattle.board_threads.specs.Sweeps.{sweeps_of}
+use Rattle.actor_calls.specs.Absorbed.{only_raises}
+use Rattle.actor_calls.specs.Sweeps.{sweeps_of}
 use Rattle.shared_board.specs.Calling.{Calling}
 
 -- the sweeps of an actor's absorbs, the last one first

@@ -1,13 +1,15 @@
 -- The abstract state of a board under a lock, and what holds when no thread uses it any more.
 use Rattle.std.specs.Prelude.{◌≡◌, ℕ, ◌<◌, ◌++◌, ◌∷◌, [], List, All, length, map}
 use Rattle.std.specs.List.{range_with_len}
+use Rattle.board_terms.specs.declared.notices.Notice.{Notice}
 use Rattle.entry_log.specs.Log.{entry}
 use Rattle.synic_board.specs.State.{State, BoardModel}
 use Rattle.synic_board.specs.History.{IsLegal, leads_to}
+use Rattle.synic_board.specs.Step.{step}
 use Rattle.synic_board.specs.declared.event.Event.{Event}
 use Rattle.synic_board.specs.declared.event.Reply.{Reply}
 use Rattle.synic_board.specs.declared.history.Entry.{Entry}
-use Rattle.board_threads.specs.History.{calls_by}
+use Rattle.actor_calls.specs.Calls.{calls_by}
 use Rattle.shared_board.specs.Calling.{Calling}
 
 -- the board, the history of all calls since it was shared, and the number of its actors
@@ -28,6 +30,14 @@ with_entry history actor event reply = history ++ entry actor event reply ∷ []
 pub record IsOneThread (start now : State) (history : List Entry) : Type 0 where
   pub legal : IsLegal start history
   pub leads : now ≡ leads_to start history
+
+-- An event among the calls of a run of one thread: after those before it, the reference model answers it so.
+pub record IsAnswered (start : State) (event : Event) (reply : Reply) (notices : List Notice) : Type 0 where
+  pub before : List Entry
+  pub mid : State
+  pub run : IsOneThread start mid before
+  pub reply_is : (step mid event).1 ≡ reply
+  pub notices_are : (step mid event).2 ≡ notices
 
 -- The end of a shared board, with all its actors.
 pub record IsEnded (start now : State) (history : List Entry) (actors : List Calling) : Type 0 where

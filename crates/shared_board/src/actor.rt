@@ -1,7 +1,7 @@
 // An actor, whose calls exist only in contracts.
 ghost use Rattle.std.specs.Prelude.{◌≡◌, map, []};
 ghost use Rattle.ghost_history.specs.Rows.{row};
-ghost use Rattle.board_threads.specs.History.{call_of};
+ghost use Rattle.actor_calls.specs.Calls.{call_of};
 ghost use Rattle.shared_board.specs.Calling.{calling};
 
 use crate::sharing::Sharing;
@@ -19,7 +19,7 @@ pub struct Actor<S: Sharing> {
 
 impl<S: Sharing> Model for Actor<S> {
     ghost use Rattle.std.specs.Prelude.{◌≡◌, map};
-    ghost use Rattle.board_threads.specs.History.{call_of};
+    ghost use Rattle.actor_calls.specs.Calls.{call_of};
     ghost use Rattle.shared_board.specs.Calling.{Calling, calling};
 
     ghost Value = { Calling };

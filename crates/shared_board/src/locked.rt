@@ -6,8 +6,8 @@ ghost use Rattle.synic_board.specs.State.{processors};
 ghost use Rattle.synic_board.specs.Performing.{Performs};
 ghost use Rattle.synic_board.specs.Sound.{PayloadFits};
 ghost use Rattle.synic_board.specs.declared.event.Event.TheVariants.{Absorb};
-ghost use Rattle.board_threads.specs.History.{calls_by};
-ghost use Rattle.board_threads.specs.Sweeps.{is_refusal, sweep_in};
+ghost use Rattle.actor_calls.specs.Calls.{calls_by};
+ghost use Rattle.actor_calls.specs.Sweeps.{is_refusal, sweep_in};
 ghost use Rattle.shared_board.specs.Calling.{calling, with_call};
 ghost use Rattle.shared_board.specs.Witnessed.{witnessed, with_entry, IsOneThread, IsEnded};
 

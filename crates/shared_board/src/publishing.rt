@@ -6,7 +6,7 @@ ghost use Rattle.published_words.specs.Storing.{IsStored, IsCurrent};
 ghost use Rattle.synic_board.specs.State.{processors};
 ghost use Rattle.synic_board.specs.Performing.{Performs};
 ghost use Rattle.synic_board.specs.declared.event.Event.TheVariants.{Absorb};
-ghost use Rattle.board_threads.specs.Sweeps.{is_refusal, sweep_in};
+ghost use Rattle.actor_calls.specs.Sweeps.{is_refusal, sweep_in};
 ghost use Rattle.shared_board.specs.Calling.{calling, with_call};
 ghost use Rattle.shared_board.specs.Witnessed.{witnessed, with_entry, IsOneThread, IsEnded};
 ghost use Rattle.shared_board.specs.Publishing.{publishing};

@@ -4,9 +4,9 @@ ghost use Rattle.std.specs.List.{range_with_len};
 ghost use Rattle.posted_words.specs.Words.{token};
 ghost use Rattle.synic_board.specs.State.{processors};
 ghost use Rattle.synic_board.specs.declared.event.Event.TheVariants.{Absorb};
-ghost use Rattle.board_threads.specs.Sweeps.{is_refusal, sweep_in};
+ghost use Rattle.actor_calls.specs.Sweeps.{is_refusal, sweep_in};
 ghost use Rattle.shared_board.specs.Calling.{calling, with_call};
-ghost use Rattle.shared_board.specs.Witnessed.{IsEnded};
+ghost use Rattle.shared_board.specs.Witnessed.{IsAnswered, IsEnded};
 
 use crate::actor::Actor;
 use crate::locked::LockedBoard;
@@ -68,10 +68,12 @@ impl<S: Sharing> SharedBoard<S> {
         event: &Event,
         notices: &mut Notices,
     ) -> Reply
-        ensures { actor.new ≡ with_call actor.old event.now result }
+        ensures actor { actor.new ≡ with_call actor.old event.now result }
+        ensures answered { IsAnswered S.start event.now result notices.new }
     {
         let mut guard = self.locked.lock(rt);
         let locked = &mut *guard;
+        locked.board();
         locked.perform(actor, event, notices)
     }
 
@@ -93,9 +95,11 @@ impl<S: Sharing> SharedBoard<S> {
         ensures swept { sweeper.new
             ≡ token sweeper.old.of (sweep_in (Absorb vp part result.0) result.1 ++ sweeper.old.actions) }
         ensures refused { is_refusal result.1 ≡ true → result.0 ≡ 0 }
+        ensures answered { IsAnswered S.start (Absorb vp part result.0) result.1 notices.new }
     {
         let mut guard = self.locked.lock(rt);
         let locked = &mut *guard;
+        locked.board();
         locked.absorb(actor, words, sweeper, vp, part, notices)
     }
 

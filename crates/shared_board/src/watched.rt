@@ -4,9 +4,9 @@ ghost use Rattle.posted_words.specs.Words.{token};
 ghost use Rattle.published_words.specs.Words.{words_of, published, no_logs, IsWatcher, IsWithin};
 ghost use Rattle.synic_board.specs.State.{processors};
 ghost use Rattle.synic_board.specs.declared.event.Event.TheVariants.{Absorb};
-ghost use Rattle.board_threads.specs.Sweeps.{is_refusal, sweep_in};
+ghost use Rattle.actor_calls.specs.Sweeps.{is_refusal, sweep_in};
 ghost use Rattle.shared_board.specs.Calling.{calling, with_call};
-ghost use Rattle.shared_board.specs.Witnessed.{IsEnded};
+ghost use Rattle.shared_board.specs.Witnessed.{IsAnswered, IsEnded};
 ghost use Rattle.shared_board.specs.Publishing.{IsAfter};
 
 use crate::actor::Actor;
@@ -85,9 +85,11 @@ impl<S: Watching> WatchedBoard<S> {
     ) -> (Reply, Checkpoint)
         ensures actor { actor.new ≡ with_call actor.old event.now result.0 }
         ensures after { IsAfter (words_of S.table S.start) actor.old.number event.now result.0 result.1 }
+        ensures answered { IsAnswered S.start event.now result.0 notices.new }
     {
         let mut guard = self.locked.lock(rt);
         let locked = &mut *guard;
+        locked.board();
         let reply = locked.perform(&self.words, actor, event, notices);
         locked.board();
         (reply, locked.checkpoint(&self.words))
@@ -113,9 +115,11 @@ impl<S: Watching> WatchedBoard<S> {
         ensures refused { is_refusal result.1 ≡ true → result.0 ≡ 0 }
         ensures after { IsAfter (words_of S.table S.start) actor.old.number
             (Absorb vp part result.0) result.1 result.2 }
+        ensures answered { IsAnswered S.start (Absorb vp part result.0) result.1 notices.new }
     {
         let mut guard = self.locked.lock(rt);
         let locked = &mut *guard;
+        locked.board();
         let (bits, reply) = locked.absorb(&self.words, actor, posted, sweeper, vp, part, notices);
         locked.board();
         (bits, reply, locked.checkpoint(&self.words))

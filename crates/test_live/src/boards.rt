@@ -62,7 +62,7 @@ fn played<
     let opened = board(alloc, &mut opening)?;
     let (mut live, _) = LiveBoard::open(alloc, opened).ok()?;
     scene(&mut live, &mut notices);
-    Some(live.into_board().next_ticket())
+    Some(live.into_board(&mut notices).next_ticket())
 }
 
 /// Resets a processor that is on the board.
@@ -350,6 +350,8 @@ fn refresh_after_a_post(rt: &impl Abort, live: &mut LiveBoard, notices: &mut Liv
     assert_eq!(rt; live.post(3, 1, b"a", notices), Reply::Accepted(0));
     assert_eq!(rt; live.signal(4, 7, notices), Reply::FlagWasClear);
     refresh(live, vp, notices);
+    assert_eq!(rt; notices.as_slice().len(), 0);
+    live.refresh_all(notices);
     assert_eq!(rt; notices.as_slice().len(), 0);
     let Some(page) = live.board().own_page(vp, Kind::Sim) else {
         panic!(rt; "no page")

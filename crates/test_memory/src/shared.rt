@@ -2,7 +2,7 @@
 ghost use Rattle.std.specs.Prelude.{◌≡◌, ◌<◌, true, IfOk, length};
 ghost use Rattle.posted_words.specs.Words.{IsOf};
 ghost use Rattle.synic_board.specs.State.{opened};
-ghost use Rattle.board_threads.specs.Settling.{only_raises};
+ghost use Rattle.actor_calls.specs.Absorbed.{only_raises};
 
 use crate::stopped::{Stopped, ended};
 use board_terms::{Vector, Vp};

@@ -2,7 +2,7 @@
 ghost use Rattle.std.specs.Prelude.{◌≡◌, true, All, IfSome};
 ghost use Rattle.synic_board.specs.State.{opened, processors};
 ghost use Rattle.posted_words.specs.Words.{IsOf};
-ghost use Rattle.board_threads.specs.Settling.{only_raises};
+ghost use Rattle.actor_calls.specs.Absorbed.{only_raises};
 
 use board_threads::{Actor, Line, Origin, RecordedBoard};
 use std::alloc::Global;

@@ -2,7 +2,7 @@
 ghost use Rattle.std.specs.Prelude.{◌≡◌, true, IfOk, All, length};
 ghost use Rattle.posted_words.specs.Words.{IsOf};
 ghost use Rattle.synic_board.specs.State.{processors};
-ghost use Rattle.board_threads.specs.Settling.{only_raises};
+ghost use Rattle.actor_calls.specs.Absorbed.{only_raises};
 
 use crate::boards::{Smallest, opened, shared, take_actor, take_line};
 use board_terms::{Refusal, Vector, Vp};

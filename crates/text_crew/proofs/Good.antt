@@ -17,7 +17,7 @@ use Rattle.text_lines.specs.Faults.{is_skipped}
 use Rattle.text_lines.specs.declared.fault.ScriptFault.TheVariants as faults
 use Rattle.text_lines.proofs.SizeLemmas.{sizes-are}
 use Rattle.board_threads.specs.Judging.{is_bad_step, is_bad_raise}
-use Rattle.board_threads.specs.Sweeps.{is_absorb}
+use Rattle.actor_calls.specs.Sweeps.{is_absorb}
 use Rattle.board_threads.specs.declared.script.Step.{Step}
 use Rattle.board_threads.specs.declared.script.Step.TheVariants.{Sweep}
 use Rattle.text_driver.specs.Judging.{AreGoodLines}

@@ -6,7 +6,7 @@ use Rattle.std.proofs.lemmas.List.{length-replicate}
 use Rattle.synic_board.specs.State.{State, IsWithinLimits, opened, processors}
 use Rattle.board_threads.specs.Crew.{lists}
 use Rattle.board_threads.specs.Judging.{AreScriptSizes, is_bad_step, is_bad_script, is_bad_raise, is_bad_line, has_bad_step}
-use Rattle.board_threads.specs.Sweeps.{is_absorb}
+use Rattle.actor_calls.specs.Sweeps.{is_absorb}
 use Rattle.text_lines.specs.Sizes.{AreBoardSizes, opened_by}
 use Rattle.text_crew.specs.Running.{line_pages}
 use Rattle.text_crew.specs.inside.Good.{IsGoodOn}

@@ -10,7 +10,7 @@ use Rattle.text_lines.specs.Sizes.{are_sizes, pages_held}
 use Rattle.text_lines.specs.Faults.{is_skipped, rest_fault}
 use Rattle.text_lines.specs.declared.fault.ScriptFault.{ScriptFault}
 use Rattle.text_lines.specs.declared.fault.ScriptFault.TheVariants as faults
-use Rattle.board_threads.specs.Sweeps.{is_absorb}
+use Rattle.actor_calls.specs.Sweeps.{is_absorb}
 use Rattle.board_threads.specs.declared.script.Step.{Step}
 use Rattle.board_threads.specs.declared.script.Step.TheVariants.{Act, Sweep}
 use Rattle.text_crew.specs.Crew.{Section, InSetup, InActor, InLine, Crew, new_crew, finished, entries}

@@ -8,7 +8,7 @@ use Rattle.synic_board.specs.History.{IsLegal}
 use Rattle.synic_board.specs.declared.history.Entry.{Entry}
 use Rattle.posted_words.specs.declared.line.Raised.{Raised}
 use Rattle.board_threads.specs.Crew.{IsCrewHistory, HasEach, logs_of}
-use Rattle.board_threads.specs.Settling.{AreAbsorbed}
+use Rattle.actor_calls.specs.Absorbed.{AreAbsorbed}
 use Rattle.text_lines.specs.Faults.{fault_text}
 use Rattle.text_lines.specs.declared.fault.ScriptFault.{ScriptFault}
 use Rattle.text_driver.specs.Driving.{ReadsNear}

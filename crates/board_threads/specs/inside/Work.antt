@@ -7,7 +7,7 @@ use Rattle.posted_words.specs.declared.line.Raised.{Raised}
 use Rattle.posted_words.specs.Words.{Token}
 use Rattle.synic_board.specs.declared.event.Event.{Event}
 use Rattle.synic_board.specs.declared.history.Entry.{Entry}
-use Rattle.board_threads.specs.History.{Call}
+use Rattle.actor_calls.specs.Calls.{Call}
 use Rattle.board_threads.specs.Sharing.{Acting}
 use Rattle.board_threads.specs.Crew.{AreSteps, log_of, last_steps, acts}
 use Rattle.board_threads.specs.declared.script.Step.{Step}

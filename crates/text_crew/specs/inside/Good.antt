@@ -3,7 +3,7 @@ use Rattle.std.specs.Prelude.{◌≡◌, ◌≤◌, ℕ, length, false, Option, 
 use Rattle.std.specs.List.{list_any}
 use Rattle.synic_board.specs.State.{State, IsWithinLimits, processors}
 use Rattle.board_threads.specs.Judging.{is_bad_step, is_bad_raise}
-use Rattle.board_threads.specs.Sweeps.{is_absorb}
+use Rattle.actor_calls.specs.Sweeps.{is_absorb}
 use Rattle.text_crew.specs.Crew.{Crew, entries_of}
 
 -- With all sections closed, the board is one of these, the sizes are within the limits, and each step is valid in a

@@ -1,5 +1,5 @@
 use Rattle.std.proofs.Common.{◌≡◌, All, take}
-use Rattle.board_threads.specs.History.{calls_by}
+use Rattle.actor_calls.specs.Calls.{calls_by}
 use Rattle.board_threads.proofs.settling.all_match.Given as goal
 
 abbrev pub invariant-loop-actor : goal.invariant-loop-actor

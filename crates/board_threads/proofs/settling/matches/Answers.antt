@@ -1,6 +1,6 @@
 use Rattle.std.proofs.Common.{rules, ◌≡◌, Bool, true, false, not, refl, take, ap, sym, ◌∙◌, arith}
 use Rattle.synic_board.proofs.Same.{same-event}
-use Rattle.board_threads.proofs.Taking.{taken-on}
+use Rattle.actor_calls.proofs.Taking.{taken-on}
 use Rattle.board_threads.proofs.Matching.{matched, skipped}
 use Rattle.board_threads.proofs.settling.matches.Goals.{then-entry-actor+else-next-calls+else-ne+else-ne-2, else-entry-actor}
 use Rattle.board_threads.proofs.settling.matches.Goals as goal

@@ -1,5 +1,5 @@
 use Rattle.std.proofs.Common.{◌≡◌, ◌≤◌, length, take}
-use Rattle.board_threads.specs.History.{calls_by}
+use Rattle.actor_calls.specs.Calls.{calls_by}
 use Rattle.board_threads.proofs.settling.matches.Given as goal
 
 abbrev pub invariant-loop-entry : goal.invariant-loop-entry

@@ -2,7 +2,7 @@ use Rattle.std.proofs.Common.{◌≡◌, All, map}
 use Rattle.posted_words.specs.Words.{token}
 use Rattle.board_threads.specs.Sharing.{Acting}
 use Rattle.board_threads.specs.Settling.{calls_held, calls_given}
-use Rattle.board_threads.specs.Sweeps.{sweeps_of}
+use Rattle.actor_calls.specs.Sweeps.{sweeps_of}
 use Rattle.board_threads.proofs.settling.split_all.Given as goal
 
 abbrev pub invariant-loop-actor : goal.invariant-loop-actor

@@ -4,7 +4,7 @@ use Rattle.std.specs.List.{AllZip}
 use Rattle.posted_words.specs.Words.{Token}
 use Rattle.posted_words.specs.declared.line.Raised.{Raised}
 use Rattle.board_threads.specs.inside.Work.{HasRaised}
-use Rattle.board_threads.proofs.Taking.{front-and-rest}
+use Rattle.actor_calls.proofs.Taking.{front-and-rest}
 use Rattle.board_threads.proofs.threads.run_lines.Goals as goal
 
 pub returns-in-len1-up : goal.returns-in-len1-up

@@ -1,6 +1,6 @@
 use Rattle.std.proofs.Common.{◌≡◌, ◌++◌, List, map}
 use Rattle.std.specs.List.{range_with_len}
-use Rattle.board_threads.specs.History.{Call}
+use Rattle.actor_calls.specs.Calls.{Call}
 use Rattle.board_threads.specs.Crew.{AreSteps, last_step}
 use Rattle.board_threads.proofs.workers.absorb_all.Given as goal
 

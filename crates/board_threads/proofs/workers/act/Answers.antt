@@ -1,6 +1,6 @@
 use Rattle.std.proofs.Common.{ap, ◌∙◌, arith}
 use Rattle.board_threads.specs.Sharing.{Acting}
-use Rattle.board_threads.proofs.Taking.{taken-on}
+use Rattle.actor_calls.proofs.Taking.{taken-on}
 use Rattle.board_threads.proofs.Following.{acted, swept_on}
 use Rattle.board_threads.proofs.workers.act.Goals.{in-Act+in_ok-perform-in-Act, in-Sweep+in_ok-absorb-in-Sweep}
 use Rattle.board_threads.proofs.workers.act.Goals as goal

@@ -1,4 +1,4 @@
-use Rattle.board_threads.proofs.Taking.{taken-on}
+use Rattle.actor_calls.proofs.Taking.{taken-on}
 use Rattle.board_threads.proofs.Following.{performed}
 use Rattle.board_threads.proofs.workers.perform_setup.Goals as goal
 

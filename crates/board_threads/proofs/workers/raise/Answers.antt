@@ -1,6 +1,6 @@
 use Rattle.std.proofs.Common.{rules, ◌≡◌, [], ◌∷◌, ◌++◌, ap, ◌∙◌, arith}
 use Rattle.posted_words.specs.Words.{Token}
-use Rattle.board_threads.proofs.Taking.{taken-on}
+use Rattle.actor_calls.proofs.Taking.{taken-on}
 use Rattle.board_threads.proofs.Following.{raised-on}
 use Rattle.board_threads.proofs.workers.raise.Goals as goal
 

@@ -1,7 +1,7 @@
 use Rattle.std.proofs.Common.{◌≡◌, ◌+◌, ℕ, List, ◌++◌, length, map, sym, ap, ◌∙◌, subst, length-append}
 use Rattle.std.proofs.lemmas.List.{length-map, map-append}
 use Rattle.board_terms.specs.declared.notices.Notice.{Notice}
-use Rattle.c_handles.specs.Kinds.{notices_in, eoms_in}
+use Rattle.c_handles.specs.Kinds.{notices_in}
 use Rattle.c_terms.specs.declared.notice.CNotice.{CNotice}
 use Rattle.c_terms.specs.declared.reply.CReply.{CReply}
 use Rattle.c_terms.specs.Events.{event_from_c}

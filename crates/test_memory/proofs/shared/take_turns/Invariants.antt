@@ -1,6 +1,6 @@
 use Rattle.std.proofs.Common.{◌≡◌, true}
 use Rattle.posted_words.specs.Words.{IsOf}
-use Rattle.board_threads.specs.Settling.{only_raises}
+use Rattle.actor_calls.specs.Absorbed.{only_raises}
 use Rattle.test_memory.proofs.shared.take_turns.Given as goal
 
 abbrev pub invariant-loop-turn : goal.invariant-loop-turn

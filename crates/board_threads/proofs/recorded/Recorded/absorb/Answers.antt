@@ -1,6 +1,6 @@
 use Rattle.std.proofs.Common.{sym, ap, ◌∙◌}
 use Rattle.posted_words.specs.Words.{token}
-use Rattle.board_threads.proofs.Sweeping.{absorb-sweeps, refused-absorb}
+use Rattle.actor_calls.proofs.Sweeping.{absorb-sweeps, refused-absorb}
 use Rattle.board_threads.proofs.recorded.Recorded.absorb.Goals as goal
 
 pub returns-clause-swept : goal.returns-clause-swept

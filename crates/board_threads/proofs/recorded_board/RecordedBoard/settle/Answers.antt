@@ -3,7 +3,8 @@ use Rattle.std.proofs.lemmas.List.Elements.{All-map}
 use Rattle.posted_words.specs.Words.{Words, Token, token, actions_of}
 use Rattle.board_threads.specs.declared.settling.Ended.{Ended}
 use Rattle.board_threads.specs.Sharing.{Acting}
-use Rattle.board_threads.specs.Settling.{AreAllOf, AreAbsorbed, IsSettled}
+use Rattle.actor_calls.specs.Absorbed.{AreAbsorbed}
+use Rattle.board_threads.specs.Settling.{AreAllOf, IsSettled}
 use Rattle.board_threads.proofs.Absorbs.{are-absorbed}
 use Rattle.board_threads.proofs.recorded_board.RecordedBoard.settle.Goals as goal
 

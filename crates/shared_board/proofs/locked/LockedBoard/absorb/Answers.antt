@@ -1,7 +1,7 @@
 use Rattle.std.proofs.Common.{sym, ap, ◌∙◌}
 use Rattle.posted_words.specs.Words.{token}
 use Rattle.synic_board.specs.Effects.{Outcome}
-use Rattle.board_threads.proofs.Sweeping.{absorb-sweeps, refused-absorb}
+use Rattle.actor_calls.proofs.Sweeping.{absorb-sweeps, refused-absorb}
 use Rattle.shared_board.proofs.locked.LockedBoard.absorb.Goals as goal
 
 pub returns-clause-swept : goal.returns-clause-swept

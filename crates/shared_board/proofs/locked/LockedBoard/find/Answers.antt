@@ -1,6 +1,6 @@
 use Rattle.std.proofs.Common.{◌≡◌, map, sym, ap, subst, ◌∙◌}
 use Rattle.ghost_history.specs.Rows.{Row}
-use Rattle.board_threads.specs.History.{call_of, calls_by}
+use Rattle.actor_calls.specs.Calls.{call_of, calls_by}
 use Rattle.shared_board.specs.Calling.{Calling}
 use Rattle.shared_board.specs.Witnessed.{Witnessed, witnessed}
 use Rattle.shared_board.specs.inside.Rostered.{entries_by, IsRostered}

@@ -1,5 +1,5 @@
 use Rattle.std.proofs.Common.{◌≡◌, All, take}
-use Rattle.board_threads.specs.History.{calls_by}
+use Rattle.actor_calls.specs.Calls.{calls_by}
 use Rattle.shared_board.proofs.locked.LockedBoard.find_all.Given as goal
 
 abbrev pub invariant-loop-index : goal.invariant-loop-index

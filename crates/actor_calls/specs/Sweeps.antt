@@ -9,7 +9,7 @@ use Rattle.synic_board.specs.declared.history.Entry.{Entry}
 use Rattle.posted_words.specs.declared.rule.Action.{Action}
 use Rattle.posted_words.specs.Action.{times_taken}
 use Rattle.posted_words.specs.Words.{sweep_of}
-use Rattle.board_threads.specs.History.{Call}
+use Rattle.actor_calls.specs.Calls.{Call}
 
 abbrev pub is_absorb : Event → Bool
 is_absorb (Absorb vp part bits) = true

@@ -14,8 +14,8 @@ use Rattle.synic_board.specs.declared.event.Reply.{Reply}
 use Rattle.synic_board.specs.declared.event.Reply.TheVariants.{Done}
 use Rattle.posted_words.specs.declared.rule.Action.{Action}
 use Rattle.posted_words.specs.Words.{sweep_of}
-use Rattle.board_threads.specs.History.{Call}
-use Rattle.board_threads.specs.Sweeps.{is_absorb, is_refusal, sweep_in, sweeps_of}
+use Rattle.actor_calls.specs.Calls.{Call}
+use Rattle.actor_calls.specs.Sweeps.{is_absorb, is_refusal, sweep_in, sweeps_of}
 
 sweeps-push : (calls : List Call) (e : Event) (r : Reply)
     → sweeps_of (calls ++ (e, r) ∷ []) ≡ sweep_in e r ++ sweeps_of calls

@@ -15,10 +15,14 @@ use Rattle.posted_words.specs.Action.{times_raised, fresh, times_taken}
 use Rattle.posted_words.specs.Settled.{Settled}
 use Rattle.posted_words.proofs.Closing.{some_fresh}
 use Rattle.posted_words.specs.Words.{Token, actions_of, sweep_of}
-use Rattle.board_threads.specs.History.{Call}
-use Rattle.board_threads.specs.Sweeps.{is_refusal, sweep_in, sweeps_of}
-use Rattle.board_threads.specs.Settling.{AreAbsorbed, only_raises}
-use Rattle.board_threads.proofs.Counting.{sum-map}
+use Rattle.actor_calls.specs.Calls.{Call}
+use Rattle.actor_calls.specs.Sweeps.{is_refusal, sweep_in, sweeps_of}
+use Rattle.actor_calls.specs.Absorbed.{AreAbsorbed, only_raises}
+
+module _ {A B : Type 0} where
+  pub sum-map : (f : B → ℕ) (g : A → B) (xs : List A) → sum_by f (map g xs) ≡ sum_by (λ x. f (g x)) xs
+  sum-map f g [] = refl
+  sum-map f g (x ∷ xs) = omega (arith, sum_by-cons f (g x) (map g xs), sum_by-cons (λ y. f (g y)) x xs, sum-map f g xs)
 
 -- a call sweeps nothing, or a word
 one-sweep : (P : List Action → Type 0) (e : Event) (r : Reply) → P [] → ((w n : ℕ) → P (Sweep w n ∷ []))
