@@ -129,8 +129,16 @@ fn post_in(board: &mut AnyBoard, port: u8, message_type: u32, payload: &[u8]) ->
     requires { length payload.now ≤ 240 }
     ensures { IsPerformed (post_from_c port message_type payload.now) (Some board.old) (Some board.new) result }
 {
-    let reply = board.post(port, message_type, payload);
-    reply_to_c(reply, board.notices().len() as u16)
+    match board {
+        AnyBoard::Plain(board) => {
+            let reply = board.post(port, message_type, payload);
+            reply_to_c(reply, board.notices.as_slice().len() as u16)
+        }
+        AnyBoard::Live(board) => {
+            let reply = board.post(port, message_type, payload);
+            reply_to_c(reply, board.notices.as_slice().len() as u16)
+        }
+    }
 }
 
 /// Signals an event flag of a port.
@@ -180,8 +188,16 @@ fn store_in(board: &mut AnyBoard, address: u64, bytes: &[u8]) -> CReply
     requires { length bytes.now ≤ 8 }
     ensures { IsPerformed (store_from_c address bytes.now) (Some board.old) (Some board.new) result }
 {
-    let reply = board.store(address, bytes);
-    reply_to_c(reply, board.notices().len() as u16)
+    match board {
+        AnyBoard::Plain(board) => {
+            let reply = board.store(address, bytes);
+            reply_to_c(reply, board.notices.as_slice().len() as u16)
+        }
+        AnyBoard::Live(board) => {
+            let reply = board.store(address, bytes);
+            reply_to_c(reply, board.notices.as_slice().len() as u16)
+        }
+    }
 }
 
 /// A guest loads `length` bytes from a guest physical address.

@@ -25,8 +25,16 @@ pub(crate) fn perform_on(handle: &mut BoardHandle, event: &Event) -> CReply
 pub(crate) fn perform_in(board: &mut AnyBoard, event: &Event) -> CReply
     ensures { IsPerformed (Some event.now) (Some board.old) (Some board.new) result }
 {
-    let reply = board.perform(event);
-    reply_to_c(reply, board.notices().len() as u16)
+    match board {
+        AnyBoard::Plain(board) => {
+            let reply = board.perform(event);
+            reply_to_c(reply, board.notices.as_slice().len() as u16)
+        }
+        AnyBoard::Live(board) => {
+            let reply = board.perform(event);
+            reply_to_c(reply, board.notices.as_slice().len() as u16)
+        }
+    }
 }
 
 /// The reply of a call whose arguments encode no event.
