@@ -449,8 +449,8 @@ uint8_t synicboard_open_line(synicboard_line *line, uint8_t processors);
  * none left; or SYNICBOARD_NO_MEMORY if an allocation fails. */
 uint8_t synicboard_split_line(synicboard_line *line, synicboard_line *other);
 
-/* Closes the line. Does nothing if the handle is closed. Closing the last line of the words frees them,
- * and drops vectors that were raised and not absorbed. */
+/* Closes the line. Does nothing if the handle is closed. Closing the last line of the words frees
+ * them; vectors that were raised and not absorbed are lost then. */
 void synicboard_close_line(synicboard_line *line);
 
 /* Results of synicboard_raise. */
