@@ -1,6 +1,8 @@
 """The dependencies of the crates and the minutes of their proofs, what a built file was made from, and the command that
 has the toolchain check a crate against the libraries that `rt ci` proved in this checkout."""
 
+import collections
+import functools
 import hashlib
 import os
 import subprocess
@@ -31,11 +33,12 @@ def below(crates, name):
     return [library for library in crates if library in found]
 
 
+@functools.lru_cache(maxsize=None)
 def minutes():
-    """The processor-minutes of each crate's proof, mutants and tests, as tools/minutes has them."""
+    """The processor-minutes of each crate's proof, mutants and tests, as tools/minutes has them; few if it has none."""
     with open(os.path.join(ROOT, "tools", "minutes"), encoding="utf-8") as file:
         rows = [line.split() for line in file if line.strip() and not line.startswith("#")]
-    return {crate: tuple(map(float, some)) for crate, *some in rows}
+    return collections.defaultdict(lambda: (0.2, 0, 0), {crate: tuple(map(float, some)) for crate, *some in rows})
 
 
 def checksum(crate, built):

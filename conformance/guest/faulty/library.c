@@ -104,9 +104,10 @@ synicboard *synicboard_hold(synicboard_shared *shared)
     return &the_board;
 }
 
-void synicboard_release(synicboard_shared *shared)
+uint8_t synicboard_release(synicboard_shared *shared)
 {
     pthread_mutex_unlock(&lock);
+    return SYNICBOARD_OK;
 }
 
 /* ---- Events ---- */

@@ -1,16 +1,10 @@
 -- What holds when the threads have ended.
-use Rattle.std.specs.Prelude.{◌≡◌, ◌≢◌, ℕ, ◌+◌, ◌<◌, List, [], ◌∷◌, All, Bool, true, false, length, slice_index}
+use Rattle.std.specs.Prelude.{◌≡◌, ◌≢◌, ℕ, List, [], ◌∷◌, All, length}
 use Rattle.std.specs.List.{sum_by}
-use Rattle.std.specs.Int.{bit_at}
 use Rattle.synic_board.specs.State.{State}
 use Rattle.synic_board.specs.History.{IsLegal, leads_to}
 use Rattle.synic_board.specs.declared.history.Entry.{Entry}
-use Rattle.posted_words.specs.declared.rule.Action.{Action}
-use Rattle.posted_words.specs.declared.rule.Action.TheVariants.{Raise, Sweep}
-use Rattle.posted_words.specs.Action.{times_raised}
-use Rattle.posted_words.specs.Settled.{all_fresh}
 use Rattle.actor_calls.specs.Calls.{Call, calls_by}
-use Rattle.actor_calls.specs.Sweeps.{times_absorbed}
 use Rattle.board_threads.specs.Sharing.{Acting}
 use Rattle.board_threads.specs.declared.settling.ActorCalls.{ActorCalls}
 use Rattle.board_threads.specs.declared.settling.Ended.{Ended}

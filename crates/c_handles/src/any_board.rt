@@ -1,6 +1,6 @@
 // A board of either kind.
 ghost use Rattle.std.specs.Prelude.{◌≡◌, ◌≤◌, [], length, IfOk, OnErr};
-ghost use Rattle.synic_board.specs.declared.event.Event.TheVariants.{Absorb, Post, Store};
+ghost use Rattle.synic_board.specs.declared.event.Event.TheVariants.{Absorb};
 ghost use Rattle.synic_board.specs.Performing.{Performs};
 ghost use Rattle.c_handles.specs.Kinds.{board_in, notices_in, eoms_in, pages_in, PerformsOn, IsRefreshedOn, IsMadeLive};
 
@@ -61,30 +61,6 @@ impl AnyBoard {
         match self {
             AnyBoard::Plain(held) => held.perform(event),
             AnyBoard::Live(held) => held.perform(event),
-        }
-    }
-
-    /// `perform` of a post, with a borrowed payload of at most 240 bytes.
-    #[inline(always)]
-    pub fn post(&mut self, port: u8, kind: u32, payload: &[u8]) -> Reply
-        requires { length payload.now ≤ 240 }
-        ensures { PerformsOn self.old (Post port kind (record { items = payload.now })) self.new result }
-    {
-        match self {
-            AnyBoard::Plain(held) => held.post(port, kind, payload),
-            AnyBoard::Live(held) => held.post(port, kind, payload),
-        }
-    }
-
-    /// `perform` of a store of at most 8 bytes, which are borrowed.
-    #[inline(always)]
-    pub fn store(&mut self, address: u64, bytes: &[u8]) -> Reply
-        requires { length bytes.now ≤ 8 }
-        ensures { PerformsOn self.old (Store address (record { items = bytes.now })) self.new result }
-    {
-        match self {
-            AnyBoard::Plain(held) => held.store(address, bytes),
-            AnyBoard::Live(held) => held.store(address, bytes),
         }
     }
 

@@ -1,6 +1,6 @@
 -- What processors share: the clock, the next ticket, the ports and the guest pages.
-use Rattle.std.proofs.Common.{◌≡◌, ℕ, zero, suc, ◌+◌, ◌*◌, ◌/◌, ◌%◌, ◌^◌, ◌==◌, ◌&&◌, true, false, not, nat_lt, nat_le, List, [], ◌∷◌, length, Option, None, Some, Result, Ok, Err, set, refl, sym, ap, ◌∙◌, subst}
-use Rattle.std.specs.Prelude.{if◌then◌else◌, cond}
+use Rattle.std.proofs.Common.{◌≡◌, ℕ, zero, suc, ◌+◌, ◌*◌, ◌/◌, ◌%◌, ◌^◌, ◌==◌, ◌&&◌, Bool, true, false, not, nat_lt, nat_le, List, [], ◌∷◌, length, Option, None, Some, Result, Ok, Err, set, refl, sym, ap, ◌∙◌, subst}
+use Rattle.std.specs.Prelude.{if◌then◌else◌, cond, position, slice_index_or}
 use Rattle.std.specs.Option.{option_map_or}
 use Rattle.std.specs.Int.{bit_at}
 use Rattle.arrayvec.specs.ArrayVec.{ArrayVec}
@@ -13,20 +13,20 @@ use Rattle.board_terms.specs.declared.refusal.Refusal.TheVariants.{SynicOff, Clo
 use Rattle.event_ports.specs.declared.ports.Port.{Port}
 use Rattle.event_ports.specs.Ports.{open_refusal, target_of, message_target_of, flag_place_of}
 use Rattle.gpa_space.specs.Page.{overwritten}
-use Rattle.gpa_space.specs.Space.{visible, overlay_owner, owner_of, visible_page, with_visible_page, refusal_of, page_count, is_flag_set}
+use Rattle.gpa_space.specs.Space.{visible, is_mapped_at, overlay_owner, owner_of, visible_page, with_visible_page, refusal_of, page_count, is_flag_set}
 use Rattle.lapic_core.specs.Apic.{next}
 use Rattle.message_queues.specs.Queues.{queue_of}
 use Rattle.stimer_bank.specs.declared.timer.Mode.{Mode}
 use Rattle.stimer_bank.specs.declared.timer.Mode.TheVariants.{Direct, Posted}
 use Rattle.stimer_bank.specs.Bank.{Bank, with_config, with_count, dues, due_list}
-use Rattle.synic_regs.specs.Regs.{raised_by, has, enable, is_refused, with_value}
+use Rattle.synic_regs.specs.Regs.{Regs, reset_regs, raised_by, has, enable, is_refused, with_value}
 use Rattle.synic_regs.specs.Registers.{register_of}
 use Rattle.synic_regs.specs.declared.register.Register.{Register}
 use Rattle.synic_regs.specs.declared.register.Register.TheVariants as register
 use Rattle.synic_board.specs.declared.event.Event.{Event}
 use Rattle.synic_board.specs.declared.event.Event.TheVariants.{OpenPort, ClosePort, Write, Read, Post, Signal, Assert, Absorb, Store, Load, Tick, Take, Suspend, Resume, Reset, Send}
 use Rattle.synic_board.specs.declared.event.Reply.TheVariants as replies
-use Rattle.synic_board.specs.State.{State, processors, apic_of, regs_of, space_of, bank_of, ports_of, slot_of, with_apic, with_regs, with_bank, with_space}
+use Rattle.synic_board.specs.State.{State, processors, apic_of, regs_of, overlay_registers, space_of, bank_of, ports_of, slot_of, with_apic, with_regs, with_bank, with_space}
 use Rattle.synic_board.specs.Effects.{Effect, Outcome, nothing, after, answered, unchanged, refused, at_processor}
 use Rattle.synic_board.specs.Interrupts.{is_requested, requested, raised, taken_at, taken}
 use Rattle.synic_board.specs.Absorbing.{is_posted, absorbed, absorbed_below}
@@ -40,7 +40,7 @@ use Rattle.synic_board.specs.Suspending.{is_suspended, with_suspension, suspende
 use Rattle.synic_board.specs.Timers.{mode_at, is_ready, delivery_by, signalled_by, expired_state, expiry_at, fired, attempted, attempted_until, written_timer, most_expiries, at_moment, ticked}
 use Rattle.synic_board.specs.Step.{step}
 use Rattle.synic_board.proofs.keeping.Requests.{either}
-use Rattle.law_processors.specs.Isolation.{changes_ports, is_timers, may_accept, KeepsShared, StoresAlone, NoneIsVisible}
+use Rattle.law_processors.specs.Isolation.{changes_ports, is_timers, may_accept, is_overlays, KeepsShared, StoresAlone, NoneIsVisible}
 
 -- an effect that leaves a part of the state
 abbrev pub Leaves : {X : Type 0} → (State → X) → State → Effect → Type 0
@@ -51,23 +51,45 @@ LeavesIn f s o = f o.0 ≡ f s
 
 -- all of it
 abbrev pub Parts : Type 0
-Parts = ℕ × ℕ × List (Option Port) × List (List ℕ)
+Parts = ℕ × ℕ × List (Option Port) × List (List ℕ) × List Regs
 
 abbrev pub all : State → Parts
-all s = (s.moment, s.next_ticket, s.ports, s.pages)
+all s = (s.moment, s.next_ticket, s.ports, s.pages, s.regs)
+
+-- without the registers, which a write stores
+abbrev Apart : Type 0
+Apart = ℕ × ℕ × List (Option Port) × List (List ℕ)
+
+abbrev apart : State → Apart
+apart s = (s.moment, s.next_ticket, s.ports, s.pages)
+
+abbrev front : Parts → Apart
+front x = (x.0, x.1, x.2, x.3)
 
 -- and without the next ticket, which a message takes
 abbrev Most : Type 0
-Most = ℕ × List (Option Port) × List (List ℕ)
+Most = ℕ × List (Option Port) × List (List ℕ) × List Regs
 
 abbrev most : State → Most
-most s = (s.moment, s.ports, s.pages)
+most s = (s.moment, s.ports, s.pages, s.regs)
 
 abbrev less : Parts → Most
-less x = (x.0, x.2, x.3)
+less x = (x.0, x.2, x.3, x.4)
+
+-- without both
+abbrev Few : Type 0
+Few = ℕ × List (Option Port) × List (List ℕ)
+
+abbrev few_of : State → Few
+few_of s = (s.moment, s.ports, s.pages)
+
+-- which overlay is visible, by the registers alone
+seen : (s now : State) → overlay_registers now.regs ≡ overlay_registers s.regs → (page : ℕ)
+    → visible (space_of now) page ≡ visible (space_of s) page
+seen s now e page = ap (λ rs. position (is_mapped_at page) rs) e
 
 mostly : (s now : State) → all now ≡ all s → most now ≡ most s
-mostly s now e = ap (λ (x : Parts). (x.0, x.2, x.3)) e
+mostly s now e = ap less e
 
 -- effects that accept no message
 pub same-requested : (s : State) (p v : ℕ) → Leaves all s (requested s p v)
@@ -211,8 +233,8 @@ same-resumed : (s : State) (p : ℕ) → LeavesIn all s (resumed s p)
 same-resumed s p = either (LeavesIn all s) (is_suspended s p) (unchanged (with_suspension s p false) replies.Done)
     (refused s NotSuspended) (λ _. refl) (λ _. refl)
 
-same-stored : (s : State) (p : ℕ) (r : Register) (value : ℕ) → LeavesIn all s (stored s p r value)
-same-stored s p r value = either (LeavesIn all s) (is_refused r value) (unchanged s replies.GeneralProtection)
+same-stored : (s : State) (p : ℕ) (r : Register) (value : ℕ) → LeavesIn apart s (stored s p r value)
+same-stored s p r value = either (LeavesIn apart s) (is_refused r value) (unchanged s replies.GeneralProtection)
     (unchanged (with_regs s p (with_value (regs_of s p) r value)) replies.Done) (λ _. refl) (λ _. refl)
 
 near-timer : (s : State) (b : Bank) (t : ℕ × ℕ) → LeavesIn most s (written_timer s b t)
@@ -244,11 +266,17 @@ near-posted s port kind payload = by (message_target_of (ports_of s) port kind)
         (near-delivered s x.vp x.sint (FromPort s.next_ticket port kind payload))
 
 -- without the ports, and without the guest pages
-abbrev aside : State → ℕ × ℕ × List (List ℕ)
-aside s = (s.moment, s.next_ticket, s.pages)
+abbrev Aside : Type 0
+Aside = ℕ × ℕ × List (List ℕ) × List Regs
 
-abbrev fixed : State → ℕ × ℕ × List (Option Port)
-fixed s = (s.moment, s.next_ticket, s.ports)
+abbrev aside : State → Aside
+aside s = (s.moment, s.next_ticket, s.pages, s.regs)
+
+abbrev Fixed : Type 0
+Fixed = ℕ × ℕ × List (Option Port) × List Regs
+
+abbrev fixed : State → Fixed
+fixed s = (s.moment, s.next_ticket, s.ports, s.regs)
 
 aside-closed : (s : State) (port : ℕ) → LeavesIn aside s (closed s port)
 aside-closed s port = by (target_of (ports_of s) port)
@@ -263,11 +291,14 @@ fixed-stored s address bytes =
     let now : State = with_bytes s address bytes in
     let owner : Owner = owner_of (space_of s) (address / 4096) in
     unless fixed s (refusal_of (space_of s) address (length bytes)) (answered replies.Done (consumed_in now owner))
-    (ap (λ (x : Parts). (x.0, x.1, x.2)) (same-consumed_in now owner))
+    (ap (λ (x : Parts). (x.0, x.1, x.2, x.4)) (same-consumed_in now owner))
 
--- a tick leaves the ports and the guest pages
-abbrev placed_parts : State → List (Option Port) × List (List ℕ)
-placed_parts s = (s.ports, s.pages)
+-- a tick leaves the ports, the guest pages and the registers
+abbrev Placed : Type 0
+Placed = List (Option Port) × List (List ℕ) × List Regs
+
+abbrev placed_parts : State → Placed
+placed_parts s = (s.ports, s.pages, s.regs)
 
 ticks : (s : State) (moment : ℕ) → LeavesIn placed_parts s (ticked s moment)
 ticks s moment =
@@ -277,12 +308,12 @@ ticks s moment =
     (cond (moment == s.moment) (unchanged s replies.Done) (answered replies.Done e)) (λ _. refl)
     (λ _. either (LeavesIn placed_parts s) (moment == s.moment) (unchanged s replies.Done) (answered replies.Done e)
     (λ _. refl)
-    (λ _. ap (λ (x : Most). (x.1, x.2))
+    (λ _. ap (λ (x : Most). (x.1, x.2, x.3))
     (near-attempted_until most_expiries now (due_list (dues (bank_of s)) moment))))
 
 -- a write
 same-register : (s : State) (p : ℕ) (value : ℕ) (r : Register) → is_timers r ≡ false
-    → LeavesIn all s (written_register s p r value)
+    → LeavesIn apart s (written_register s p r value)
 same-register s p value register.ReferenceCounter never = refl
 same-register s p value register.Eoi never = refl
 same-register s p value register.Tpr never = refl
@@ -290,40 +321,93 @@ same-register s p value register.Control never = same-stored s p register.Contro
 same-register s p value register.Version never = refl
 same-register s p value register.Sief never = same-stored s p register.Sief value
 same-register s p value register.Sim never = same-stored s p register.Sim value
-same-register s p value register.Eom never = same-tried_below s p 16
+same-register s p value register.Eom never = ap front (same-tried_below s p 16)
 same-register s p value (register.Source n) never = same-stored s p (register.Source n) value
 same-register s p value (register.TimerConfig n) never = absurd (cc)
 same-register s p value (register.TimerCount n) never = absurd (cc)
 
-near-register : (s : State) (p : ℕ) (value : ℕ) (r : Register) → LeavesIn most s (written_register s p r value)
-near-register s p value (register.TimerConfig n) = near-timer s (with_config (bank_of s) (p, n) value s.moment) (p, n)
-near-register s p value (register.TimerCount n) = near-timer s (with_count (bank_of s) (p, n) value s.moment) (p, n)
+abbrev of-apart : Apart → Few
+of-apart x = (x.0, x.2, x.3)
+
+abbrev of-most : Most → Few
+of-most x = (x.0, x.1, x.2)
+
+near-register : (s : State) (p : ℕ) (value : ℕ) (r : Register) → LeavesIn few_of s (written_register s p r value)
+near-register s p value (register.TimerConfig n) =
+    ap of-most (near-timer s (with_config (bank_of s) (p, n) value s.moment) (p, n))
+near-register s p value (register.TimerCount n) =
+    ap of-most (near-timer s (with_count (bank_of s) (p, n) value s.moment) (p, n))
 near-register s p value register.ReferenceCounter = refl
 near-register s p value register.Eoi = refl
 near-register s p value register.Tpr = refl
-near-register s p value register.Control = ap less (same-stored s p register.Control value)
+near-register s p value register.Control = ap of-apart (same-stored s p register.Control value)
 near-register s p value register.Version = refl
-near-register s p value register.Sief = ap less (same-stored s p register.Sief value)
-near-register s p value register.Sim = ap less (same-stored s p register.Sim value)
-near-register s p value register.Eom = ap less (same-tried_below s p 16)
-near-register s p value (register.Source n) = ap less (same-stored s p (register.Source n) value)
+near-register s p value register.Sief = ap of-apart (same-stored s p register.Sief value)
+near-register s p value register.Sim = ap of-apart (same-stored s p register.Sim value)
+near-register s p value register.Eom = ap (λ (x : Parts). (x.0, x.2, x.3)) (same-tried_below s p 16)
+near-register s p value (register.Source n) = ap of-apart (same-stored s p (register.Source n) value)
 
-near-written : (s : State) (p number value : ℕ) → LeavesIn most s (written s p number value)
+-- registers of a processor with the same SIMP and SIEFP place the overlays alike
+placed-alike : (regs : List Regs) (p : ℕ) (r : Regs) → r.sim ≡ (slice_index_or regs p reset_regs).sim
+    → r.sief ≡ (slice_index_or regs p reset_regs).sief → overlay_registers (set regs p r) ≡ overlay_registers regs
+placed-alike [] p r sim sief = refl
+placed-alike (x ∷ regs) zero r sim sief = λ i. sim i ∷ sief i ∷ overlay_registers regs
+placed-alike (x ∷ regs) (suc p) r sim sief = ap (λ rs. x.sim ∷ x.sief ∷ rs) (placed-alike regs p r sim sief)
+
+abbrev places : State → List ℕ
+places s = overlay_registers s.regs
+
+places-stored : (s : State) (p value : ℕ) (r : Register) → (with_value (regs_of s p) r value).sim ≡ (regs_of s p).sim
+    → (with_value (regs_of s p) r value).sief ≡ (regs_of s p).sief → LeavesIn places s (stored s p r value)
+places-stored s p value r sim sief =
+    either (LeavesIn places s) (is_refused r value) (unchanged s replies.GeneralProtection)
+    (unchanged (with_regs s p (with_value (regs_of s p) r value)) replies.Done) (λ _. refl)
+    (λ _. placed-alike s.regs p (with_value (regs_of s p) r value) sim sief)
+
+places-register : (s : State) (p value : ℕ) (r : Register) → is_overlays r ≡ false
+    → LeavesIn places s (written_register s p r value)
+places-register s p value register.ReferenceCounter never = refl
+places-register s p value register.Eoi never = refl
+places-register s p value register.Tpr never = refl
+places-register s p value register.Control never = places-stored s p value register.Control refl refl
+places-register s p value register.Version never = refl
+places-register s p value register.Sief never = absurd (cc)
+places-register s p value register.Sim never = absurd (cc)
+places-register s p value register.Eom never =
+    ap (λ (x : Parts). overlay_registers x.4) (same-tried_below s p 16)
+places-register s p value (register.Source n) never = places-stored s p value (register.Source n) refl refl
+places-register s p value (register.TimerConfig n) never =
+    ap (λ (x : Most). overlay_registers x.3) (near-timer s (with_config (bank_of s) (p, n) value s.moment) (p, n))
+places-register s p value (register.TimerCount n) never =
+    ap (λ (x : Most). overlay_registers x.3) (near-timer s (with_count (bank_of s) (p, n) value s.moment) (p, n))
+
+module _ {X : Type 0} (f : State → X) (is : Register → Bool)
+    (each : (s : State) (p value : ℕ) (r : Register) → is r ≡ false → LeavesIn f s (written_register s p r value))
+    where
+  by-register : (s : State) (p number value : ℕ) → option_map_or is (register_of number) false ≡ false
+      → LeavesIn f s (written s p number value)
+  by-register s p number value = by (register_of number)
+    where
+      by : (o : Option Register) → option_map_or is o false ≡ false
+          → LeavesIn f s (option_map_or (λ r. written_register s p r value) o (unchanged s replies.GeneralProtection))
+      by None never = refl
+      by (Some r) never = each s p value r never
+
+near-written : (s : State) (p number value : ℕ) → LeavesIn few_of s (written s p number value)
 near-written s p number value = by (register_of number)
   where
-    by : (o : Option Register)
-        → LeavesIn most s (option_map_or (λ r. written_register s p r value) o (unchanged s replies.GeneralProtection))
+    by : (o : Option Register) → LeavesIn few_of s
+        (option_map_or (λ r. written_register s p r value) o (unchanged s replies.GeneralProtection))
     by None = refl
     by (Some r) = near-register s p value r
 
 same-written : (s : State) (p number value : ℕ) → option_map_or is_timers (register_of number) false ≡ false
-    → LeavesIn all s (written s p number value)
-same-written s p number value = by (register_of number)
-  where
-    by : (o : Option Register) → option_map_or is_timers o false ≡ false
-        → LeavesIn all s (option_map_or (λ r. written_register s p r value) o (unchanged s replies.GeneralProtection))
-    by None never = refl
-    by (Some r) never = same-register s p value r never
+    → LeavesIn apart s (written s p number value)
+same-written = by-register apart is_timers same-register
+
+places-written : (s : State) (p number value : ℕ) → option_map_or is_overlays (register_of number) false ≡ false
+    → LeavesIn places s (written s p number value)
+places-written = by-register places is_overlays places-register
 
 -- each event
 from-all : (s : State) (event : Event) → LeavesIn all s (step s event) → KeepsShared s event
@@ -333,6 +417,7 @@ from-all s event e =
       ports = λ _. ap (λ (x : Parts). x.2) e;
       tickets = λ _. ap (λ (x : Parts). x.1) e;
       pages = λ _. ap (λ (x : Parts). x.3) e;
+      overlays = λ _. seen s (step s event).0 (ap (λ (x : Parts). overlay_registers x.4) e);
     }
 
 from-most : (s : State) (event : Event) → (may_accept event ≡ false → (step s event).0.next_ticket ≡ s.next_ticket)
@@ -343,16 +428,18 @@ from-most s event tickets e =
       ports = λ _. ap (λ (x : Most). x.1) e;
       tickets = tickets;
       pages = λ _. ap (λ (x : Most). x.2) e;
+      overlays = λ _. seen s (step s event).0 (ap (λ (x : Most). overlay_registers x.3) e);
     }
 
 from-aside : (s : State) (event : Event) → changes_ports event ≡ true → LeavesIn aside s (step s event)
     → KeepsShared s event
 from-aside s event is e =
     record {
-      moment = λ _. ap (λ (x : ℕ × ℕ × List (List ℕ)). x.0) e;
+      moment = λ _. ap (λ (x : Aside). x.0) e;
       ports = λ never. absurd (cc);
-      tickets = λ _. ap (λ (x : ℕ × ℕ × List (List ℕ)). x.1) e;
-      pages = λ _. ap (λ (x : ℕ × ℕ × List (List ℕ)). x.2) e;
+      tickets = λ _. ap (λ (x : Aside). x.1) e;
+      pages = λ _. ap (λ (x : Aside). x.2) e;
+      overlays = λ _. seen s (step s event).0 (ap (λ (x : Aside). overlay_registers x.3) e);
     }
 
 pub keeps-shared-parts : (s : State) (event : Event) → KeepsShared s event
@@ -363,9 +450,16 @@ keeps-shared-parts s (OpenPort port p i shape) =
     (unless aside s (open_refusal (ports_of s) port p i shape) (unchanged now replies.Done) refl)
 keeps-shared-parts s (ClosePort port) = from-aside s (ClosePort port) refl (aside-closed s port)
 keeps-shared-parts s (Write p number value) =
-    from-most s (Write p number value)
-    (λ never. ap (λ (x : Parts). x.1) (at all s p (written s p number value) (same-written s p number value never)))
-    (at most s p (written s p number value) (near-written s p number value))
+    let e = at few_of s p (written s p number value) (near-written s p number value) in
+    record {
+      moment = λ _. ap (λ (x : Few). x.0) e;
+      ports = λ _. ap (λ (x : Few). x.1) e;
+      tickets = λ never. ap (λ (x : Apart). x.1)
+          (at apart s p (written s p number value) (same-written s p number value never));
+      pages = λ _. ap (λ (x : Few). x.2) e;
+      overlays = λ never. seen s (step s (Write p number value)).0
+          (at places s p (written s p number value) (places-written s p number value never));
+    }
 keeps-shared-parts s (Read p number) = from-all s (Read p number) (at all s p _ refl)
 keeps-shared-parts s (Post port kind payload) =
     from-most s (Post port kind payload) (λ never. absurd (cc)) (near-posted s port kind payload)
@@ -377,24 +471,34 @@ keeps-shared-parts s (Absorb p part bits) =
 keeps-shared-parts s (Store address bytes) =
     let e = fixed-stored s address bytes.items in
     record {
-      moment = λ _. ap (λ (x : ℕ × ℕ × List (Option Port)). x.0) e;
-      ports = λ _. ap (λ (x : ℕ × ℕ × List (Option Port)). x.2) e;
-      tickets = λ _. ap (λ (x : ℕ × ℕ × List (Option Port)). x.1) e;
+      moment = λ _. ap (λ (x : Fixed). x.0) e;
+      ports = λ _. ap (λ (x : Fixed). x.2) e;
+      tickets = λ _. ap (λ (x : Fixed). x.1) e;
       pages = λ never. absurd (cc);
+      overlays = λ _. seen s (step s (Store address bytes)).0 (ap (λ (x : Fixed). overlay_registers x.3) e);
     }
 keeps-shared-parts s (Load address count) = from-all s (Load address count) refl
 keeps-shared-parts s (Tick moment) =
     let e = ticks s moment in
     record {
       moment = λ never. absurd (cc);
-      ports = λ _. ap (λ (x : List (Option Port) × List (List ℕ)). x.0) e;
+      ports = λ _. ap (λ (x : Placed). x.0) e;
       tickets = λ never. absurd (cc);
-      pages = λ _. ap (λ (x : List (Option Port) × List (List ℕ)). x.1) e;
+      pages = λ _. ap (λ (x : Placed). x.1) e;
+      overlays = λ _. seen s (step s (Tick moment)).0 (ap (λ (x : Placed). overlay_registers x.2) e);
     }
 keeps-shared-parts s (Take p) = from-all s (Take p) (at all s p (taken s p) (same-taken s p))
 keeps-shared-parts s (Suspend p) = from-all s (Suspend p) (at all s p (suspended s p) (same-suspended s p))
 keeps-shared-parts s (Resume p) = from-all s (Resume p) (at all s p (resumed s p) (same-resumed s p))
-keeps-shared-parts s (Reset p) = from-all s (Reset p) (at all s p (reset s p) (same-emptied_below s p 16))
+keeps-shared-parts s (Reset p) =
+    let e = at apart s p (reset s p) (ap front (same-emptied_below s p 16)) in
+    record {
+      moment = λ _. ap (λ (x : Apart). x.0) e;
+      ports = λ _. ap (λ (x : Apart). x.2) e;
+      tickets = λ _. ap (λ (x : Apart). x.1) e;
+      pages = λ _. ap (λ (x : Apart). x.3) e;
+      overlays = λ never. absurd (cc);
+    }
 keeps-shared-parts s (Send v mask) = from-all s (Send v mask) (same-sent s v mask)
 
 -- a store where no overlay is visible

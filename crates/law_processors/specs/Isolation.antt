@@ -17,7 +17,7 @@ use Rattle.gpa_space.specs.Space.{own_page, owner_of, visible}
 use Rattle.message_queues.specs.Queues.{queue_of}
 use Rattle.stimer_bank.specs.Bank.{timer_in, is_suspended, dues}
 use Rattle.synic_regs.specs.declared.register.Register.{Register}
-use Rattle.synic_regs.specs.declared.register.Register.TheVariants.{TimerConfig, TimerCount}
+use Rattle.synic_regs.specs.declared.register.Register.TheVariants.{Sim, Sief, TimerConfig, TimerCount}
 use Rattle.synic_regs.specs.Registers.{register_of}
 use Rattle.synic_board.specs.declared.event.Event.{Event}
 use Rattle.synic_board.specs.declared.event.Event.TheVariants.{OpenPort, ClosePort, Write, Read, Post, Signal, Assert, Absorb, Store, Load, Tick, Take, Suspend, Resume, Reset, Send}
@@ -93,7 +93,8 @@ pub record RunsAlone (s : State) (events : List Event) (q : Processor) : Type 0 
   pub state : Keeps q s (run_of s events).0
   pub notices : All (λ notice. processor_of notice ≢ q) (run_of s events).2
 
--- the events that may change what processors share: the clock, the ports, the next ticket and the guest pages
+-- the events that may change what processors share: the clock, the ports, the next ticket, the guest pages, and where
+-- the guest sees an overlay
 abbrev pub moves_clock : Event → Bool
 moves_clock (Tick moment) = true
 moves_clock event = false
@@ -118,11 +119,23 @@ abbrev pub changes_pages : Event → Bool
 changes_pages (Store address bytes) = true
 changes_pages event = false
 
+abbrev pub is_overlays : Register → Bool
+is_overlays Sim = true
+is_overlays Sief = true
+is_overlays register = false
+
+abbrev pub moves_overlays : Event → Bool
+moves_overlays (Write p number value) = option_map_or is_overlays (register_of number) false
+moves_overlays (Reset p) = true
+moves_overlays event = false
+
 pub record KeepsShared (s : State) (event : Event) : Type 0 where
   pub moment : moves_clock event ≡ false → (step s event).0.moment ≡ s.moment
   pub ports : changes_ports event ≡ false → (step s event).0.ports ≡ s.ports
   pub tickets : may_accept event ≡ false → (step s event).0.next_ticket ≡ s.next_ticket
   pub pages : changes_pages event ≡ false → (step s event).0.pages ≡ s.pages
+  pub overlays : moves_overlays event ≡ false → (page : ℕ)
+      → visible (space_of (step s event).0) page ≡ visible (space_of s) page
 
 -- a store where a guest sees no overlay changes guest pages alone
 pub record StoresAlone (s : State) (address : Address) (bytes : ArrayVec ℕ) : Type 0 where

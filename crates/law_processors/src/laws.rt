@@ -67,7 +67,8 @@ pub fn events_confined_to_two_processors_can_be_exchanged()
 {}
 
 /// What processors share: only a tick moves the clock, only opening and closing change the ports, only a post, a
-/// tick and a write of a timer take tickets, and only a store changes guest pages.
+/// tick and a write of a timer take tickets, only a store changes guest pages, and only a write of SIMP or SIEFP, or
+/// a reset, changes which overlay is visible where.
 pub fn shared_parts_change_only_by_their_events()
     ensures { (s : State) (event : Event) → KeepsShared s event }
 {}
