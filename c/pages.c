@@ -36,23 +36,30 @@ void *page_malloc(size_t size)
     return block;
 }
 
+/* The pages of the board that has a page, and the page's number there; null if no board has it. */
+static struct lent **find(const uint8_t *page, unsigned *number)
+{
+    for (struct lent **at = &lents; *at != NULL; at = &(*at)->next)
+        for (*number = 0; *number < (*at)->count; ++*number)
+            if ((*at)->pages[*number] == page)
+                return at;
+    return NULL;
+}
+
 /* Takes a page back that was lent, and forgets the pages of a board when none of them is lent. */
 static bool was_lent(const uint8_t *page)
 {
-    for (struct lent **at = &lents; *at != NULL; at = &(*at)->next) {
-        struct lent *lent = *at;
-        for (unsigned number = 0; number < lent->count; number++) {
-            if (lent->pages[number] != page)
-                continue;
-            lent->pages[number] = NULL;
-            if (--lent->left == 0) {
-                *at = lent->next;
-                free(lent);
-            }
-            return true;
-        }
+    unsigned number;
+    struct lent **at = find(page, &number);
+    if (at == NULL)
+        return false;
+    struct lent *lent = *at;
+    lent->pages[number] = NULL;
+    if (--lent->left == 0) {
+        *at = lent->next;
+        free(lent);
     }
-    return false;
+    return true;
 }
 
 void page_free(void *block)
@@ -114,23 +121,30 @@ static uint8_t count_before(unsigned count, unsigned *before)
     return answer;
 }
 
-/* Pages that page_free does not free; null without memory. */
-static struct lent *lend(uint8_t *const *pages, unsigned count)
+/* Lends pages, which page_free does not free then, unless another board has one of them. */
+static uint8_t lend(uint8_t *const *pages, unsigned count)
 {
     struct lent *lent = malloc(sizeof *lent + count * sizeof *lent->pages);
     if (lent == NULL)
-        return NULL;
+        return SYNICBOARD_NO_MEMORY;
+    bool is_lent = false;
+    unsigned found;
     lent->left = lent->count = count;
-    for (unsigned number = 0; number < count; number++)
-        lent->pages[number] = pages[number];
     pthread_mutex_lock(&lents_lock);
-    lent->next = lents;
-    lents = lent;
+    for (unsigned number = 0; number < count; number++) {
+        lent->pages[number] = pages[number];
+        is_lent = is_lent || find(pages[number], &found) != NULL;
+    }
+    if (!is_lent) {
+        lent->next = lents;
+        lents = lent;
+    }
     pthread_mutex_unlock(&lents_lock);
-    return lent;
+    if (is_lent)
+        free(lent);
+    return is_lent ? SYNICBOARD_BAD_PAGE : SYNICBOARD_OK;
 }
 
-/* Takes back those from a number on. */
 static void take_back(uint8_t *const *pages, unsigned from, unsigned count)
 {
     pthread_mutex_lock(&lents_lock);
@@ -166,8 +180,8 @@ uint8_t synicboard_make_live_in(synicboard *board, uint8_t *const *pages)
     uint8_t answer = count_before(count, &blocks.first);
     if (answer != SYNICBOARD_OK)
         return answer;
-    if (lend(pages, count) == NULL)
-        return SYNICBOARD_NO_MEMORY;
+    if ((answer = lend(pages, count)) != SYNICBOARD_OK)
+        return answer;
     answer = make_live(board, &blocks);
     unsigned used = blocks.count < blocks.first ? 0 : blocks.count - blocks.first;
     take_back(pages, answer == SYNICBOARD_OK ? count : used, count);

@@ -22,7 +22,7 @@ static const char *const outcomes[] = {
     [SYNICBOARD_NOT_LIVE] = "the board has no live pages",
     [SYNICBOARD_IS_HELD] = "the thread holds the shared board already",
     [SYNICBOARD_NOT_HELD] = "the thread does not hold the shared board",
-    [SYNICBOARD_BAD_PAGE] = "a page is null, not at a multiple of 4096, or there twice",
+    [SYNICBOARD_BAD_PAGE] = "a page is null, not at a multiple of 4096, there twice, or another board's",
 };
 
 static const char *const refusals[] = {

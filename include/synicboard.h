@@ -83,7 +83,7 @@ enum synicboard_outcome {
     SYNICBOARD_NOT_RECORDED = 13,       /* the shared board has no history */
     SYNICBOARD_IS_LIVE = 14,            /* the board has live pages, and the call serves only others */
     SYNICBOARD_NOT_LIVE = 15,           /* the board has no live pages */
-    SYNICBOARD_BAD_PAGE = 16,           /* a page is null, not at a multiple of 4096, or there twice */
+    SYNICBOARD_BAD_PAGE = 16,           /* a page is null, not at a multiple of 4096, there twice, or another board's */
     SYNICBOARD_IS_HELD = 17,            /* the thread holds the shared board already */
     SYNICBOARD_NOT_HELD = 18            /* the thread does not hold the shared board */
 };
@@ -708,8 +708,8 @@ uint8_t synicboard_make_live(synicboard *board, uint8_t **pages);
  * are the board's until it is closed, and are not freed then. A board that is restored later may have them again, at
  * the same places. What was in them is lost, also if an allocation fails.
  *
- * Returns what synicboard_make_live returns; SYNICBOARD_BAD_PAGE if a page is null, not at a multiple of 4096, or
- * there twice. */
+ * Returns what synicboard_make_live returns; SYNICBOARD_BAD_PAGE if a page is null, not at a multiple of 4096,
+ * there twice, or another open board's. */
 uint8_t synicboard_make_live_in(synicboard *board, uint8_t *const *pages);
 
 /* Whether the board has live pages. */

@@ -486,7 +486,15 @@ static void test_wrong_pages(void)
     }
     CHECK(number > 12);
     CHECK_NUMBER(synicboard_make_live_in(&board, places), SYNICBOARD_IS_LIVE);
+    synicboard other = SYNICBOARD_CLOSED;
+    open_busy(&other, 0);
+    CHECK_NUMBER(synicboard_make_live_in(&other, places), SYNICBOARD_BAD_PAGE);
+    places[0] = own[0];
+    CHECK_NUMBER(synicboard_make_live_in(&other, places), SYNICBOARD_BAD_PAGE);
+    set_places();
     synicboard_close(&board);
+    CHECK_NUMBER(synicboard_make_live_in(&other, places), SYNICBOARD_OK);
+    synicboard_close(&other);
 }
 
 int main(void)

@@ -60,7 +60,7 @@ pub const SYNICBOARD_NOT_RECORDED: u8 = 13;
 pub const SYNICBOARD_IS_LIVE: u8 = 14;
 /// Outcome: the board has no live pages.
 pub const SYNICBOARD_NOT_LIVE: u8 = 15;
-/// Outcome: a page is null, not at a multiple of 4096, or there twice.
+/// Outcome: a page is null, not at a multiple of 4096, there twice, or another board's.
 pub const SYNICBOARD_BAD_PAGE: u8 = 16;
 /// Outcome: the thread holds the shared board already.
 pub const SYNICBOARD_IS_HELD: u8 = 17;

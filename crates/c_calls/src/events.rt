@@ -9,7 +9,7 @@ ghost use Rattle.board_terms.specs.declared.messages.PortShape.TheVariants as sh
 ghost use Rattle.c_handles.specs.declared.any_board.AnyBoard.TheVariants.{Live};
 
 use crate::looks::{CDeadline, earliest_on};
-use crate::perform_on::{no_event, perform_on};
+use crate::perform_on::{no_event, perform_live, perform_plain};
 use board_terms::{PortShape, Vector};
 use c_handles::{AnyBoard, BoardHandle, LiveWithNotices};
 use c_terms::{CEvent, CReply, Fault, event_of, fault_to_c, perform_c, reply_to_c};
@@ -20,6 +20,20 @@ const MOST_PAYLOAD: usize = 240;
 
 /// The greatest number of bytes of a store.
 const MOST_STORED: usize = 8;
+
+/// Performs an event on the board of a handle, if it is open. The event is constructed where its kind of board is
+/// known, so that the plain way has no event in memory.
+macro_rules! perform_on {
+    ($handle:ident, $event:expr $(,)?) => {
+        match $handle.board_mut() {
+            Some(board) => match board {
+                AnyBoard::Plain(board) => perform_plain(board, &$event),
+                AnyBoard::Live(board) => perform_live(board, &$event),
+            },
+            None => fault_to_c(Fault::Closed),
+        }
+    };
+}
 
 /// Opens a port for messages to source `sint` of processor `vp`, with 1 to 16 buffers.
 #[unsafe(no_mangle)]
@@ -33,9 +47,9 @@ pub extern "C" fn synicboard_open_message_port(
     ensures { IsPerformed (Some (event.OpenPort port vp sint (shape.Messages buffers))) handle.old.board
         handle.new.board result }
 {
-    perform_on(
+    perform_on!(
         handle,
-        &Event::OpenPort {
+        Event::OpenPort {
             port,
             vp,
             sint,
@@ -57,9 +71,9 @@ pub extern "C" fn synicboard_open_event_port(
     ensures { IsPerformed (Some (event.OpenPort port vp sint (shape.Flags base count))) handle.old.board
         handle.new.board result }
 {
-    perform_on(
+    perform_on!(
         handle,
-        &Event::OpenPort {
+        Event::OpenPort {
             port,
             vp,
             sint,
@@ -73,7 +87,7 @@ pub extern "C" fn synicboard_open_event_port(
 pub extern "C" fn synicboard_close_port(handle: &mut BoardHandle, port: u8) -> CReply
     ensures { IsPerformed (Some (event.ClosePort port)) handle.old.board handle.new.board result }
 {
-    perform_on(handle, &Event::ClosePort { port })
+    perform_on!(handle, Event::ClosePort { port })
 }
 
 /// A guest writes a register of processor `vp`.
@@ -86,9 +100,9 @@ pub extern "C" fn synicboard_write(
 ) -> CReply
     ensures { IsPerformed (Some (event.Write vp register value)) handle.old.board handle.new.board result }
 {
-    perform_on(
+    perform_on!(
         handle,
-        &Event::Write {
+        Event::Write {
             vp,
             register,
             value,
@@ -101,7 +115,7 @@ pub extern "C" fn synicboard_write(
 pub extern "C" fn synicboard_read(handle: &mut BoardHandle, vp: u8, register: u32) -> CReply
     ensures { IsPerformed (Some (event.Read vp register)) handle.old.board handle.new.board result }
 {
-    perform_on(handle, &Event::Read { vp, register })
+    perform_on!(handle, Event::Read { vp, register })
 }
 
 /// Posts a message with a payload of up to 240 bytes to a port.
@@ -146,7 +160,7 @@ fn post_in(board: &mut AnyBoard, port: u8, message_type: u32, payload: &[u8]) ->
 pub extern "C" fn synicboard_signal(handle: &mut BoardHandle, port: u8, flag: u16) -> CReply
     ensures { IsPerformed (Some (event.Signal port flag)) handle.old.board handle.new.board result }
 {
-    perform_on(handle, &Event::Signal { port, flag })
+    perform_on!(handle, Event::Signal { port, flag })
 }
 
 /// A device requests a vector, 16 to 255, at the local APIC of processor `vp`.
@@ -156,7 +170,7 @@ pub extern "C" fn synicboard_assert(handle: &mut BoardHandle, vp: u8, vector: u8
 {
     match Vector::new(vector) {
         None => no_event(handle),
-        Some(vector) => perform_on(handle, &Event::Assert { vp, vector }),
+        Some(vector) => perform_on!(handle, Event::Assert { vp, vector }),
     }
 }
 
@@ -165,7 +179,7 @@ pub extern "C" fn synicboard_assert(handle: &mut BoardHandle, vp: u8, vector: u8
 pub extern "C" fn synicboard_absorb(handle: &mut BoardHandle, vp: u8, part: u8, bits: u64) -> CReply
     ensures { IsPerformed (Some (event.Absorb vp part bits)) handle.old.board handle.new.board result }
 {
-    perform_on(handle, &Event::Absorb { vp, part, bits })
+    perform_on!(handle, Event::Absorb { vp, part, bits })
 }
 
 /// A guest stores up to 8 bytes at a guest physical address.
@@ -205,7 +219,7 @@ fn store_in(board: &mut AnyBoard, address: u64, bytes: &[u8]) -> CReply
 pub extern "C" fn synicboard_load(handle: &mut BoardHandle, address: u64, length: u8) -> CReply
     ensures { IsPerformed (Some (event.Load address length)) handle.old.board handle.new.board result }
 {
-    perform_on(handle, &Event::Load { address, length })
+    perform_on!(handle, Event::Load { address, length })
 }
 
 /// Moves the clock to a time in units of 100 ns.
@@ -213,7 +227,7 @@ pub extern "C" fn synicboard_load(handle: &mut BoardHandle, address: u64, length
 pub extern "C" fn synicboard_tick(handle: &mut BoardHandle, moment: u64) -> CReply
     ensures { IsPerformed (Some (event.Tick moment)) handle.old.board handle.new.board result }
 {
-    perform_on(handle, &Event::Tick { moment })
+    perform_on!(handle, Event::Tick { moment })
 }
 
 /// Moves the clock, and stores the earliest deadline afterwards in `due`.
@@ -226,7 +240,7 @@ pub extern "C" fn synicboard_tick_due(
     ensures performed { IsPerformed (Some (event.Tick moment)) handle.old.board handle.new.board result }
     ensures due { due.new ≡ earliest_of handle.new.board }
 {
-    let reply = perform_on(handle, &Event::Tick { moment });
+    let reply = perform_on!(handle, Event::Tick { moment });
     *due = earliest_on(handle);
     reply
 }
@@ -236,7 +250,7 @@ pub extern "C" fn synicboard_tick_due(
 pub extern "C" fn synicboard_take(handle: &mut BoardHandle, vp: u8) -> CReply
     ensures { IsPerformed (Some (event.Take vp)) handle.old.board handle.new.board result }
 {
-    perform_on(handle, &Event::Take { vp })
+    perform_on!(handle, Event::Take { vp })
 }
 
 /// Suspends processor `vp`.
@@ -244,7 +258,7 @@ pub extern "C" fn synicboard_take(handle: &mut BoardHandle, vp: u8) -> CReply
 pub extern "C" fn synicboard_suspend(handle: &mut BoardHandle, vp: u8) -> CReply
     ensures { IsPerformed (Some (event.Suspend vp)) handle.old.board handle.new.board result }
 {
-    perform_on(handle, &Event::Suspend { vp })
+    perform_on!(handle, Event::Suspend { vp })
 }
 
 /// Resumes processor `vp`.
@@ -252,7 +266,7 @@ pub extern "C" fn synicboard_suspend(handle: &mut BoardHandle, vp: u8) -> CReply
 pub extern "C" fn synicboard_resume(handle: &mut BoardHandle, vp: u8) -> CReply
     ensures { IsPerformed (Some (event.Resume vp)) handle.old.board handle.new.board result }
 {
-    perform_on(handle, &Event::Resume { vp })
+    perform_on!(handle, Event::Resume { vp })
 }
 
 /// Resets processor `vp`.
@@ -260,7 +274,7 @@ pub extern "C" fn synicboard_resume(handle: &mut BoardHandle, vp: u8) -> CReply
 pub extern "C" fn synicboard_reset(handle: &mut BoardHandle, vp: u8) -> CReply
     ensures { IsPerformed (Some (event.Reset vp)) handle.old.board handle.new.board result }
 {
-    perform_on(handle, &Event::Reset { vp })
+    perform_on!(handle, Event::Reset { vp })
 }
 
 /// Requests a vector, 16 to 255, at the local APIC of each processor of `mask`, lowest first. Bit p of
@@ -272,7 +286,7 @@ pub extern "C" fn synicboard_send(handle: &mut BoardHandle, vector: u8, mask: u6
     let Some(vector) = Vector::new(vector) else {
         return no_event(handle);
     };
-    perform_on(handle, &Event::Send { vector, mask })
+    perform_on!(handle, Event::Send { vector, mask })
 }
 
 /// Performs an event that is given as a struct.
@@ -281,17 +295,17 @@ pub extern "C" fn synicboard_perform(handle: &mut BoardHandle, plain: &CEvent) -
     ensures { IsPerformed (event_from_c plain.now) handle.old.board handle.new.board result }
 {
     match handle.board_mut() {
-        Some(board) => perform_plain_in(board, plain),
+        Some(board) => perform_struct_in(board, plain),
         None => fault_to_c(Fault::Closed),
     }
 }
 
 /// Performs an event that is given as a struct on a board.
 #[inline(always)]
-fn perform_plain_in(board: &mut AnyBoard, plain: &CEvent) -> CReply
+fn perform_struct_in(board: &mut AnyBoard, plain: &CEvent) -> CReply
     ensures { IsPerformed (event_from_c plain.now) (Some board.old) (Some board.new) result }
 {
-    match perform_plain(board, plain) {
+    match perform_struct(board, plain) {
         Some(reply) => reply_to_c(reply, board.notices().len() as u16),
         None => fault_to_c(Fault::NoEvent),
     }
@@ -299,20 +313,20 @@ fn perform_plain_in(board: &mut AnyBoard, plain: &CEvent) -> CReply
 
 /// Performs the event that a struct encodes. `None` if it encodes none; then nothing changes.
 #[inline(always)]
-pub(crate) fn perform_plain(board: &mut AnyBoard, plain: &CEvent) -> Option<Reply>
+pub(crate) fn perform_struct(board: &mut AnyBoard, plain: &CEvent) -> Option<Reply>
     ensures performed { IfSome result (λ r. PerformsSome (event_from_c plain.now) board.old board.new r) }
     ensures none { IfNone result (event_from_c plain.now ≡ None) }
     ensures kept { IfNone result (board.new ≡ board.old) }
 {
     match board {
         AnyBoard::Plain(board) => perform_c(&mut board.board, &mut board.notices, plain),
-        AnyBoard::Live(board) => perform_live(board, plain),
+        AnyBoard::Live(board) => perform_live_struct(board, plain),
     }
 }
 
 /// The same on a board with live pages. Out of line, so that the plain way has no event in memory.
 #[inline(never)]
-fn perform_live(board: &mut LiveWithNotices, plain: &CEvent) -> Option<Reply>
+fn perform_live_struct(board: &mut LiveWithNotices, plain: &CEvent) -> Option<Reply>
     ensures performed { IfSome result (λ r. PerformsSome (event_from_c plain.now) (Live board.old) (Live board.new) r) }
     ensures none { IfNone result (event_from_c plain.now ≡ None) }
     ensures kept { IfNone result (board.new ≡ board.old) }

@@ -10,7 +10,7 @@ ghost use Rattle.c_calls.specs.Inspected.{no_eoi_required_at};
 ghost use Rattle.c_calls.specs.Looks.{alarm_of};
 ghost use Rattle.c_calls.specs.Stepping.{IsAdvanced, IsStep, IsStepped, has_next, AreNextBits, AreEndBits};
 
-use crate::events::perform_plain;
+use crate::events::perform_struct;
 use crate::inspect::synicboard_no_eoi_required;
 use crate::looks::{CAlarm, synicboard_alarm};
 use crate::views::with_bit;
@@ -101,7 +101,7 @@ fn step_in(board: &mut AnyBoard, now: u64, plain: &CEvent, room: &mut [CNotice])
         result.notices result.clock_eoms result.eoms room.old room.new }
 {
     let (count, clock_eoms) = advance(board, now, room);
-    let Some(reply) = perform_plain(board, plain) else {
+    let Some(reply) = perform_struct(board, plain) else {
         return Stepped {
             reply: fault_to_c(Fault::NoEvent),
             notices: count,

@@ -396,8 +396,8 @@ module _ {X : Type 0} (f : State → X) (is : Register → Bool)
 near-written : (s : State) (p number value : ℕ) → LeavesIn few_of s (written s p number value)
 near-written s p number value = by (register_of number)
   where
-    by : (o : Option Register)
-        → LeavesIn few_of s (option_map_or (λ r. written_register s p r value) o (unchanged s replies.GeneralProtection))
+    by : (o : Option Register) → LeavesIn few_of s
+        (option_map_or (λ r. written_register s p r value) o (unchanged s replies.GeneralProtection))
     by None = refl
     by (Some r) = near-register s p value r
 

@@ -16,7 +16,7 @@ pub returns : goal.returns
 returns c =
     let moved = c.advance-count.ensures in
     let first : List Notice = moved.0 in
-    let more : List Notice = notices_in c.perform_plain.new.board in
+    let more : List Notice = notices_in c.perform_struct.new.board in
     let given = c.notices-given.ensures.value in
     let count : ℕ = c.advance-count.result.0 + length c.notices-given.result.now in
     let replied = c.reply_to_c.ensures ∙ ap (λ (l : List Notice). reply_to_c c.in-Some.reply (length l)) given in
@@ -30,11 +30,11 @@ returns c =
     moved.4 in
     let fronts = subst (λ (l : List CNotice). Fronts l c.args.room.now c.put_more.new.room) all put in
     let step = of-event c.args.now (event_from_c c.args.plain.now) c.args.board.now c.advance-count.new.board
-    c.perform_plain.new.board c.in-Some.reply first count c.advance-count.result.1 c.args.room.now
+    c.perform_struct.new.board c.in-Some.reply first count c.advance-count.result.1 c.args.room.now
     c.put_more.new.room moved.1 c.in-Some.ensures.performed counted fronts in
     subst (λ (r : CReply). IsStep c.args.now (event_from_c c.args.plain.now) c.args.board.now
-    c.perform_plain.new.board r count c.advance-count.result.1 c.eoms.result c.args.room.now c.put_more.new.room)
+    c.perform_struct.new.board r count c.advance-count.result.1 c.eoms.result c.args.room.now c.put_more.new.room)
     (sym replied)
-    (subst (λ n. IsStep c.args.now (event_from_c c.args.plain.now) c.args.board.now c.perform_plain.new.board
+    (subst (λ n. IsStep c.args.now (event_from_c c.args.plain.now) c.args.board.now c.perform_struct.new.board
     (reply_to_c c.in-Some.reply (length more)) count c.advance-count.result.1 n c.args.room.now c.put_more.new.room)
     (sym c.eoms.ensures) step)
