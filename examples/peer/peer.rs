@@ -4,7 +4,7 @@
 //! A call that is left out answers `= unsupported`, and the cases that need it are skipped.
 
 use std::io::{self, BufRead, Write};
-use synicboard::{Board, Notice, Reply, Vector};
+use synicboard::{Board, Notice, Port, Reply, Ticket, Vector};
 
 /// An answer: the reply, without `= `, and the notices, without `. `.
 #[derive(Default)]
@@ -14,7 +14,10 @@ struct Answer {
 }
 
 fn unsupported() -> Answer {
-    Answer { reply: "unsupported".into(), notices: Vec::new() }
+    Answer {
+        reply: "unsupported".into(),
+        notices: Vec::new(),
+    }
 }
 
 /// An implementation of the events. Numbers that it cannot have are its own to refuse.
@@ -30,7 +33,14 @@ trait Peer: Sized {
         unsupported()
     }
 
-    fn open_event_port(&mut self, _port: u8, _vp: u8, _sint: u8, _base: u16, _count: u16) -> Answer {
+    fn open_event_port(
+        &mut self,
+        _port: u8,
+        _vp: u8,
+        _sint: u8,
+        _base: u16,
+        _count: u16,
+    ) -> Answer {
         unsupported()
     }
 
@@ -108,7 +118,9 @@ fn bytes(word: &str) -> Option<Vec<u8>> {
     if word == "-" {
         return Some(Vec::new());
     }
-    (0..word.len() / 2).map(|at| hexadecimal(word.get(2 * at..2 * at + 2)?)).collect()
+    (0..word.len() / 2)
+        .map(|at| hexadecimal(word.get(2 * at..2 * at + 2)?))
+        .collect()
 }
 
 fn host_event<P: Peer>(peer: &mut P, words: &[&str]) -> Option<Answer> {
@@ -121,7 +133,13 @@ fn host_event<P: Peer>(peer: &mut P, words: &[&str]) -> Option<Answer> {
         ),
         ["open", port, "event", vp, sint, base, count] => {
             let (base, count) = (base.parse().ok()?, count.parse().ok()?);
-            peer.open_event_port(port.parse().ok()?, vp.parse().ok()?, sint.parse().ok()?, base, count)
+            peer.open_event_port(
+                port.parse().ok()?,
+                vp.parse().ok()?,
+                sint.parse().ok()?,
+                base,
+                count,
+            )
         }
         ["close", port] => peer.close_port(port.parse().ok()?),
         ["post", port, kind, payload] => {
@@ -143,7 +161,9 @@ fn host_event<P: Peer>(peer: &mut P, words: &[&str]) -> Option<Answer> {
 
 fn guest_event<P: Peer>(peer: &mut P, words: &[&str]) -> Option<Answer> {
     Some(match *words {
-        ["write", vp, msr, value] => peer.write_msr(vp.parse().ok()?, hexadecimal(msr)?, hexadecimal(value)?),
+        ["write", vp, msr, value] => {
+            peer.write_msr(vp.parse().ok()?, hexadecimal(msr)?, hexadecimal(value)?)
+        }
         ["read", vp, msr] => peer.read_msr(vp.parse().ok()?, hexadecimal(msr)?),
         ["store", address, stored] => peer.guest_store(hexadecimal(address)?, &bytes(stored)?),
         ["load", address, length] => peer.guest_load(hexadecimal(address)?, length.parse().ok()?),
@@ -174,9 +194,15 @@ fn perform<P: Peer>(peer: &mut Option<P>, line: &str, output: &mut impl Write) -
     if line == "sync" {
         return writeln!(output, "= sync");
     }
-    let answer = peer.as_mut().and_then(|peer| guest_event(peer, &words).or_else(|| host_event(peer, &words)));
+    let answer = peer
+        .as_mut()
+        .and_then(|peer| guest_event(peer, &words).or_else(|| host_event(peer, &words)));
     let answer = answer.unwrap_or_else(unsupported);
-    let lines = answer.notices.iter().map(|notice| format!(". {notice}\n")).collect::<String>();
+    let lines = answer
+        .notices
+        .iter()
+        .map(|notice| format!(". {notice}\n"))
+        .collect::<String>();
     write!(output, "= {}\n{lines}", answer.reply)
 }
 
@@ -219,10 +245,16 @@ fn notice_text(notice: Notice) -> String {
         Notice::Accepted { ticket, vp, sint } => {
             format!("accepted {ticket} {} {}", vp.number(), sint.number())
         }
-        Notice::Placed { ticket, vp, sint } => format!("placed {ticket} {} {}", vp.number(), sint.number()),
+        Notice::Placed { ticket, vp, sint } => {
+            format!("placed {ticket} {} {}", vp.number(), sint.number())
+        }
         Notice::Pending { vp, sint } => format!("pending {} {}", vp.number(), sint.number()),
-        Notice::Requested { vp, vector } => format!("requested {} {:02x}", vp.number(), vector.number()),
-        Notice::FlagSet { vp, sint, flag } => format!("flag {} {} {flag}", vp.number(), sint.number()),
+        Notice::Requested { vp, vector } => {
+            format!("requested {} {:02x}", vp.number(), vector.number())
+        }
+        Notice::FlagSet { vp, sint, flag } => {
+            format!("flag {} {} {flag}", vp.number(), sint.number())
+        }
         Notice::Consumed { ticket, vp, sint } => {
             format!("consumed {ticket} {} {}", vp.number(), sint.number())
         }
@@ -235,30 +267,33 @@ fn notice_text(notice: Notice) -> String {
 }
 
 fn told(board: &Board, reply: Reply) -> Answer {
-    Answer { reply: reply_text(reply), notices: board.notices().map(notice_text).collect() }
+    Answer {
+        reply: reply_text(reply),
+        notices: board.notices().map(notice_text).collect(),
+    }
 }
 
 impl Peer for Board {
     fn open_board(processors: u8, pages: u8, ticket: u64) -> Option<Board> {
-        Board::open(processors, pages, ticket).ok()
+        Board::open(processors, pages, Ticket::new(ticket)).ok()
     }
 
     fn open_sparse_board(processors: u8, ticket: u64) -> Option<Board> {
-        Board::open_sparse(processors, ticket).ok()
+        Board::open_sparse(processors, Ticket::new(ticket)).ok()
     }
 
     fn open_message_port(&mut self, port: u8, vp: u8, sint: u8, buffers: u8) -> Answer {
-        let reply = Board::open_message_port(self, port, vp, sint, buffers);
+        let reply = Board::open_message_port(self, Port::new(port), vp, sint, buffers);
         told(self, reply)
     }
 
     fn open_event_port(&mut self, port: u8, vp: u8, sint: u8, base: u16, count: u16) -> Answer {
-        let reply = Board::open_event_port(self, port, vp, sint, base, count);
+        let reply = Board::open_event_port(self, Port::new(port), vp, sint, base, count);
         told(self, reply)
     }
 
     fn close_port(&mut self, port: u8) -> Answer {
-        let reply = Board::close_port(self, port);
+        let reply = Board::close_port(self, Port::new(port));
         told(self, reply)
     }
 
@@ -273,17 +308,19 @@ impl Peer for Board {
     }
 
     fn post_message(&mut self, port: u8, kind: u32, payload: &[u8]) -> Answer {
-        let reply = self.post(port, kind, payload);
+        let reply = self.post(Port::new(port), kind, payload);
         told(self, reply)
     }
 
     fn signal_event(&mut self, port: u8, flag: u16) -> Answer {
-        let reply = self.signal(port, flag);
+        let reply = self.signal(Port::new(port), flag);
         told(self, reply)
     }
 
     fn assert_irq(&mut self, vp: u8, vector: u8) -> Answer {
-        let Some(vector) = Vector::new(vector) else { return unsupported() };
+        let Some(vector) = Vector::new(vector) else {
+            return unsupported();
+        };
         let reply = self.assert(vp, vector);
         told(self, reply)
     }
@@ -329,7 +366,9 @@ impl Peer for Board {
     }
 
     fn send_interrupt(&mut self, vector: u8, mask: u64) -> Answer {
-        let Some(vector) = Vector::new(vector) else { return unsupported() };
+        let Some(vector) = Vector::new(vector) else {
+            return unsupported();
+        };
         let reply = self.send(vector, mask);
         told(self, reply)
     }

@@ -1,9 +1,9 @@
 //! Delivers one message to a guest, with as few calls as possible.
 
-use synicboard::{msr, Board, OpenFault, Reply};
+use synicboard::{msr, Board, OpenFault, Port, Reply, Ticket};
 
 fn main() -> Result<(), OpenFault> {
-    let mut board = Board::open(1, 4, 0)?;
+    let mut board = Board::open(1, 4, Ticket::new(0))?;
     let setup = [
         (msr::SCONTROL, 1),     // enable the SynIC
         (msr::SIMP, 0x2001),    // message page at page 2
@@ -13,8 +13,8 @@ fn main() -> Result<(), OpenFault> {
         assert_eq!(board.write(0, register, value), Reply::Done);
     }
     // Port 3 has SINT2 as its target, and two buffers.
-    assert_eq!(board.open_message_port(3, 0, 2, 2), Reply::Done);
-    println!("{:?}", board.post(3, 1, b"\n"));
+    assert_eq!(board.open_message_port(Port::new(3), 0, 2, 2), Reply::Done);
+    println!("{:?}", board.post(Port::new(3), 1, b"\n"));
     for notice in board.notices() {
         println!("{notice:?}");
     }

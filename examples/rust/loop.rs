@@ -7,7 +7,7 @@ use std::sync::atomic::{AtomicU64, Ordering};
 use std::sync::{Condvar, Mutex};
 use std::thread;
 use synicboard::msr::{EOI, EOM, SCONTROL, SIMP, STIMER0_CONFIG, STIMER0_COUNT};
-use synicboard::{Board, Line, Notice, Raised, Refusal, Reply, Vector};
+use synicboard::{Board, Line, Notice, Port, Raised, Refusal, Reply, Ticket, Vector};
 
 const SINT2: u32 = 0x4000_0092;
 const TIMER_VECTOR: Vector = Vector::new(0x40).unwrap();
@@ -17,7 +17,7 @@ const WORK_VECTOR: Vector = Vector::new(0x60).unwrap();
 const PAGE: u64 = 0x2000;
 const SLOT: usize = 0x200;
 
-const PORT: u8 = 3;
+const PORT: Port = Port::new(3);
 const MESSAGES: u64 = 1000;
 const EXPIRIES: u64 = 500;
 const WORK: u64 = 2000;
@@ -154,7 +154,7 @@ fn set_up(board: &mut Board) {
 }
 
 fn main() {
-    let mut board = Board::open(2, 4, 0).expect("memory for a board");
+    let mut board = Board::open(2, 4, Ticket::new(0)).expect("memory for a board");
     set_up(&mut board);
     // One line for each thread that raises or absorbs.
     let mut first = Line::open(2).expect("memory for a line");

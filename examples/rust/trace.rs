@@ -5,7 +5,7 @@
 use std::error::Error;
 use std::thread;
 use synicboard::msr::EOI;
-use synicboard::{Event, Line, NoEntry, NoticeRoom, Raised, RecordedBoard, Vector};
+use synicboard::{Event, Line, NoEntry, NoticeRoom, Raised, RecordedBoard, Ticket, Vector};
 
 const PROCESSORS: u8 = 2;
 const TURNS: usize = 500;
@@ -50,7 +50,7 @@ fn run_device(line: &mut Line) -> u64 {
 }
 
 fn main() -> Result<(), Box<dyn Error>> {
-    let board = RecordedBoard::open(PROCESSORS, 1, 0)?;
+    let board = RecordedBoard::open(PROCESSORS, 1, Ticket::new(0))?;
     let mut device_line = Line::open(PROCESSORS)?;
     let mut lines = [device_line.split()?, device_line.split()?];
     let (fresh, in_turns) = thread::scope(|scope| {

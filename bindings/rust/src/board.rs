@@ -2,8 +2,8 @@
 
 use crate::notice::{Room, LIVE_ROOM, ROOM};
 use crate::{
-    beyond_the_header, same_library, sys, Answer, AnswerRoom, Changes, Event, Line, Moment, Notices, Owner, Owners, PortShape, Reply, Sint,
-    Ticket, TimerId, Vector, View, Vp, WideChanges, WideView,
+    beyond_the_header, same_library, sys, Answer, AnswerRoom, Changes, Event, Line, Moment, Notices, Owner,
+    Owners, Port, PortShape, Reply, Sint, Ticket, TimerId, Vector, View, Vp, WideChanges, WideView,
 };
 use core::cell::UnsafeCell;
 use core::error::Error;
@@ -115,10 +115,10 @@ pub struct Timer {
 /// The value itself takes some 9 KB, with a buffer for the notices of an event.
 ///
 /// ```
-/// use synicboard::{Board, Notice, Reply, Vector};
+/// use synicboard::{Board, Notice, Port, Reply, Ticket, Vector};
 ///
 /// # fn main() -> Result<(), synicboard::OpenFault> {
-/// let mut board = Board::open(1, 4, 0)?;
+/// let mut board = Board::open(1, 4, Ticket::new(0))?;
 ///
 /// // The guest enables its SynIC, maps its message page at page 2, and gives SINT2 vector 50.
 /// for (register, value) in [(0x4000_0080, 1), (0x4000_0083, 0x2001), (0x4000_0092, 0x50)] {
@@ -126,8 +126,8 @@ pub struct Timer {
 /// }
 ///
 /// // The host opens port 3 to SINT2, with two buffers, and posts a message of type 1.
-/// assert_eq!(board.open_message_port(3, 0, 2, 2), Reply::Done);
-/// assert_eq!(board.post(3, 1, b"hello"), Reply::Accepted(0));
+/// assert_eq!(board.open_message_port(Port::new(3), 0, 2, 2), Reply::Done);
+/// assert_eq!(board.post(Port::new(3), 1, b"hello"), Reply::Accepted(Ticket::new(0)));
 /// let requested = |notice| matches!(notice, Notice::Requested { .. });
 /// assert!(board.notices().any(requested));
 ///
@@ -153,7 +153,7 @@ pub struct Timer {
 /// vectors without the lock uses a [`Line`].
 ///
 /// ```compile_fail,E0277
-/// # let board = synicboard::Board::open(1, 1, 0).unwrap();
+/// # let board = synicboard::Board::open(1, 1, synicboard::Ticket::new(0)).unwrap();
 /// std::thread::scope(|scope| {
 ///     scope.spawn(|| board.next(0)); // no other thread may use it
 /// });
@@ -165,7 +165,7 @@ pub struct Timer {
 /// address is a multiple of 4096, so it can be mapped into a guest, read-only.
 ///
 /// ```compile_fail,E0502
-/// # let mut board = synicboard::Board::open(1, 1, 0).unwrap();
+/// # let mut board = synicboard::Board::open(1, 1, synicboard::Ticket::new(0)).unwrap();
 /// let page = board.guest_page(0).unwrap();
 /// let _ = board.store(0, &[1]); // this would change the page
 /// assert_eq!(page[0], 0);
@@ -231,7 +231,7 @@ impl Board {
         same_library();
         let handle = UnsafeCell::new(sys::SYNICBOARD_CLOSED);
         let board = Board { handle, room: Room::new(), processors, pages };
-        OpenFault::judged(ask!(board, synicboard_open, processors, pages, first_ticket))?;
+        OpenFault::judged(ask!(board, synicboard_open, processors, pages, first_ticket.number()))?;
         Ok(board)
     }
 
@@ -242,9 +242,9 @@ impl Board {
     /// it in the guest's memory. Everything else is as on a board with that many pages.
     ///
     /// ```
-    /// use synicboard::{msr, Board, Owner, Refusal, Reply, Vp};
+    /// use synicboard::{Board, Owner, Refusal, Reply, Ticket, Vp, msr};
     ///
-    /// let mut board = Board::open_sparse(1, 0).unwrap();
+    /// let mut board = Board::open_sparse(1, Ticket::new(0)).unwrap();
     /// assert_eq!(board.write(0, msr::SIMP, 0x7_fff0_0001), Reply::Done);
     /// assert_eq!(board.next_overlay(0), Some((0x7_fff00, Owner::Sim(Vp::new(0).unwrap()))));
     /// assert_eq!(board.store(0x7_fff0_0000, &[1; 4]), Reply::Done);
@@ -262,7 +262,7 @@ impl Board {
         same_library();
         let handle = UnsafeCell::new(sys::SYNICBOARD_CLOSED);
         let board = Board { handle, room: Room::new(), processors, pages: 0 };
-        OpenFault::judged(ask!(board, synicboard_open_sparse, processors, first_ticket))?;
+        OpenFault::judged(ask!(board, synicboard_open_sparse, processors, first_ticket.number()))?;
         Ok(board)
     }
 
@@ -270,9 +270,9 @@ impl Board {
     /// those before it. Allocates all memory that the board needs.
     ///
     /// ```
-    /// use synicboard::{Board, Reply, Vector};
+    /// use synicboard::{Board, Reply, Ticket, Vector};
     ///
-    /// let mut board = Board::open(1, 1, 5).unwrap();
+    /// let mut board = Board::open(1, 1, Ticket::new(5)).unwrap();
     /// assert_eq!(board.assert(0, Vector::new(0x60).unwrap()), Reply::Done);
     /// let mut room = [0; 80];
     /// let length = board.save(&mut room).unwrap();
@@ -327,7 +327,7 @@ impl Board {
         }
     }
 
-    fn open_port(&mut self, port: u8, vp: u8, sint: u8, shape: PortShape) -> Reply {
+    fn open_port(&mut self, port: Port, vp: u8, sint: u8, shape: PortShape) -> Reply {
         match shape {
             PortShape::Messages { buffers } => self.open_message_port(port, vp, sint, buffers),
             PortShape::Flags { base, count } => self.open_event_port(port, vp, sint, base, count),
@@ -340,8 +340,8 @@ impl Board {
     ///
     /// `Done`, or refused: `UnknownPort`, `PortOpen`, `BadTarget` (also if `vp` is not on the
     /// board, or has not as many buffers left).
-    pub fn open_message_port(&mut self, port: u8, vp: u8, sint: u8, buffers: u8) -> Reply {
-        Reply::of(ask!(self, synicboard_open_message_port, port, vp, sint, buffers))
+    pub fn open_message_port(&mut self, port: Port, vp: u8, sint: u8, buffers: u8) -> Reply {
+        Reply::of(ask!(self, synicboard_open_message_port, port.number(), vp, sint, buffers))
     }
 
     /// Opens a port for the `count` event flags from `base` on, of source `sint`, 0 to
@@ -349,15 +349,15 @@ impl Board {
     ///
     /// `Done`, or refused: `UnknownPort`, `PortOpen`, `BadTarget` (also if `vp` is not on the
     /// board).
-    pub fn open_event_port(&mut self, port: u8, vp: u8, sint: u8, base: u16, count: u16) -> Reply {
-        Reply::of(ask!(self, synicboard_open_event_port, port, vp, sint, base, count))
+    pub fn open_event_port(&mut self, port: Port, vp: u8, sint: u8, base: u16, count: u16) -> Reply {
+        Reply::of(ask!(self, synicboard_open_event_port, port.number(), vp, sint, base, count))
     }
 
     /// Closes a port and withdraws its queued messages. Messages in slots stay.
     ///
     /// `Done`, or refused: `UnknownPort`.
-    pub fn close_port(&mut self, port: u8) -> Reply {
-        Reply::of(ask!(self, synicboard_close_port, port))
+    pub fn close_port(&mut self, port: Port) -> Reply {
+        Reply::of(ask!(self, synicboard_close_port, port.number()))
     }
 
     /// A guest writes a register of processor `vp`.
@@ -379,17 +379,17 @@ impl Board {
     ///
     /// `Accepted`, or refused: `UnknownPort`, `WrongKind`, `BadType`, `SynicOff`, `NoBuffers`,
     /// `TicketsSpent`. `NoEvent` for a payload of more than 240 bytes.
-    pub fn post(&mut self, port: u8, message_type: u32, payload: &[u8]) -> Reply {
+    pub fn post(&mut self, port: Port, message_type: u32, payload: &[u8]) -> Reply {
         let (bytes, length) = (payload.as_ptr(), payload.len());
-        Reply::of(ask!(self, synicboard_post, port, message_type, bytes, length))
+        Reply::of(ask!(self, synicboard_post, port.number(), message_type, bytes, length))
     }
 
     /// Signals an event flag of a port. The flags of a port are counted from 0.
     ///
     /// `FlagWasClear` or `FlagWasSet`, or refused: `UnknownPort`, `WrongKind`, `BadFlag`,
     /// `SynicOff`.
-    pub fn signal(&mut self, port: u8, flag: u16) -> Reply {
-        Reply::of(ask!(self, synicboard_signal, port, flag))
+    pub fn signal(&mut self, port: Port, flag: u16) -> Reply {
+        Reply::of(ask!(self, synicboard_signal, port.number(), flag))
     }
 
     /// A device requests a vector at the local APIC of processor `vp`.
@@ -453,9 +453,9 @@ impl Board {
     /// returns it: arm the host's timer for it.
     ///
     /// ```
-    /// use synicboard::{Board, Reply};
+    /// use synicboard::{Board, Reply, Ticket};
     ///
-    /// let mut board = Board::open(1, 1, 0).unwrap();
+    /// let mut board = Board::open(1, 1, Ticket::new(0)).unwrap();
     /// assert_eq!(board.tick_due(5), (Reply::Done, None));
     /// ```
     pub fn tick_due(&mut self, moment: Moment) -> (Reply, Option<(u128, TimerId)>) {
@@ -479,9 +479,9 @@ impl Board {
     /// stay, and otherwise there are none afterwards.
     ///
     /// ```
-    /// use synicboard::{Board, Vector};
+    /// use synicboard::{Board, Ticket, Vector};
     ///
-    /// let mut board = Board::open(1, 1, 0).unwrap();
+    /// let mut board = Board::open(1, 1, Ticket::new(0)).unwrap();
     /// for vector in [0x41, 0x90] {
     ///     board.assert(0, Vector::new(vector).unwrap());
     /// }
@@ -536,9 +536,9 @@ impl Board {
     /// found it clear; 0 if the host has no assist pages.
     ///
     /// ```
-    /// use synicboard::{AnswerRoom, Board, Event, Reply};
+    /// use synicboard::{AnswerRoom, Board, Event, Reply, Ticket};
     ///
-    /// let (mut board, mut room) = (Board::open(1, 1, 0).unwrap(), AnswerRoom::new().unwrap());
+    /// let (mut board, mut room) = (Board::open(1, 1, Ticket::new(0)).unwrap(), AnswerRoom::new().unwrap());
     /// for (register, value) in [(0x4000_0080, 1), (0x4000_00b1, 10), (0x4000_00b0, 0x1401)] {
     ///     let answer = board.step(5, Some(&Event::Write { vp: 0, register, value }), 0, &mut room);
     ///     assert_eq!(answer.reply, Some(Reply::Done));
@@ -547,7 +547,13 @@ impl Board {
     /// let answer = board.step(10, None, 0, &mut room);
     /// assert_eq!((room.notices().len(), answer.next, answer.alarm), (2, 1, None));
     /// ```
-    pub fn step(&mut self, now: Moment, event: Option<&Event>, assisted: u64, room: &mut AnswerRoom) -> Answer {
+    pub fn step(
+        &mut self,
+        now: Moment,
+        event: Option<&Event>,
+        assisted: u64,
+        room: &mut AnswerRoom,
+    ) -> Answer {
         let plain = event.map(|event| event.to_plain());
         let event = plain.as_ref().map_or(ptr::null(), ptr::from_ref);
         let answer = ask!(self, synicboard_step, now, event, assisted, room.start(), LIVE_ROOM);
@@ -561,8 +567,8 @@ impl Board {
     }
 
     /// A port, if it is open: its processor, its source and its shape.
-    pub fn port(&self, port: u8) -> Option<(Vp, Sint, PortShape)> {
-        let found = ask!(self, synicboard_port, port);
+    pub fn port(&self, port: Port) -> Option<(Vp, Sint, PortShape)> {
+        let found = ask!(self, synicboard_port, port.number());
         let shape = match found.kind {
             sys::SYNICBOARD_PORT_MESSAGES => PortShape::Messages { buffers: found.buffers },
             sys::SYNICBOARD_PORT_FLAGS => PortShape::Flags { base: found.base, count: found.count },
@@ -619,9 +625,9 @@ impl Board {
     /// The local APIC of a processor. `None` if `vp` is not on the board.
     ///
     /// ```
-    /// use synicboard::{Board, Reply, Vector};
+    /// use synicboard::{Board, Reply, Ticket, Vector};
     ///
-    /// let mut board = Board::open(1, 1, 0).unwrap();
+    /// let mut board = Board::open(1, 1, Ticket::new(0)).unwrap();
     /// let vector = Vector::new(0x41).unwrap();
     /// assert_eq!(board.assert(0, vector), Reply::Done);
     /// assert_eq!(board.take(0), Reply::Taken(Some(vector)));
@@ -647,9 +653,9 @@ impl Board {
     /// requested. Its end may wait until the host next asks which vector is next.
     ///
     /// ```
-    /// use synicboard::{Board, Vector};
+    /// use synicboard::{Board, Ticket, Vector};
     ///
-    /// let mut board = Board::open(1, 1, 0).unwrap();
+    /// let mut board = Board::open(1, 1, Ticket::new(0)).unwrap();
     /// board.assert(0, Vector::new(0x41).unwrap());
     /// board.take(0);
     /// assert!(board.no_eoi_required(0));
@@ -664,9 +670,9 @@ impl Board {
     /// processor is not on the board or the index is above 3.
     ///
     /// ```
-    /// use synicboard::{msr, Board, Reply};
+    /// use synicboard::{Board, Reply, Ticket, msr};
     ///
-    /// let mut board = Board::open(1, 1, 0).unwrap();
+    /// let mut board = Board::open(1, 1, Ticket::new(0)).unwrap();
     /// assert_eq!(board.write(0, msr::STIMER0_COUNT, 100), Reply::Done);
     /// assert_eq!(board.write(0, msr::STIMER0_CONFIG, 0x1401), Reply::Done);
     /// let timer = board.timer(0, 0).unwrap();
@@ -685,7 +691,7 @@ impl Board {
     /// guest filled itself, or if there is no such source.
     pub fn slot_ticket(&self, vp: u8, sint: u8) -> Option<Ticket> {
         let mut ticket = 0;
-        ask!(self, synicboard_slot, vp, sint, &mut ticket).then_some(ticket)
+        ask!(self, synicboard_slot, vp, sint, &mut ticket).then_some(Ticket::new(ticket))
     }
 
     /// Writes the image of the board to a buffer, as much as fits, and returns the length of the whole.
@@ -694,7 +700,7 @@ impl Board {
     /// is unchanged.
     ///
     /// ```
-    /// let mut board = synicboard::Board::open(1, 1, 5).unwrap();
+    /// let mut board = synicboard::Board::open(1, 1, synicboard::Ticket::new(5)).unwrap();
     /// let mut room = [0; 80];
     /// let length = board.save(&mut room).unwrap();
     /// assert_eq!(room[..length], *b"image 1\nboard 1 1 5\nlapic 0 0 0 0 0 0 0 0 0 0 running\nend\n");
@@ -770,7 +776,7 @@ impl Board {
 
     /// The ticket that the next accepted message gets.
     pub fn next_ticket(&self) -> Ticket {
-        ask!(self, synicboard_next_ticket)
+        Ticket::new(ask!(self, synicboard_next_ticket))
     }
 
     /// The message page of a processor, whether or not a guest sees it: the slot of source s is its

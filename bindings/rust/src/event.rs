@@ -1,21 +1,21 @@
 //! The events of a board.
 
-use crate::{sys, Moment, Vector};
+use crate::{sys, Moment, Port, Vector};
 use core::fmt;
 use core::ops::Deref;
 
 /// An event of a board, for [`Board::perform`](crate::Board::perform).
 ///
-/// Numbers of processors, sources, ports, registers and flags are plain integers, and the board
-/// refuses those that are out of range.
+/// Numbers of processors, sources, registers and flags are plain integers, and the board refuses those
+/// that are out of range, as it does ports.
 #[derive(Clone, Copy, PartialEq, Eq, Debug)]
 // A payload is stored in its event, so an event needs no allocation.
 #[allow(clippy::large_enum_variant)]
 pub enum Event {
     /// Opens a port to a source of a processor.
     OpenPort {
-        /// The port: 0 to 15, or one of four for each processor of a sparse board.
-        port: u8,
+        /// The port: Port::new(0) to 15, or one of four for each processor of a sparse board.
+        port: Port,
         /// The processor.
         vp: u8,
         /// The source, 0 to 15.
@@ -25,8 +25,8 @@ pub enum Event {
     },
     /// Closes a port.
     ClosePort {
-        /// The port: 0 to 15, or one of four for each processor of a sparse board.
-        port: u8,
+        /// The port: Port::new(0) to 15, or one of four for each processor of a sparse board.
+        port: Port,
     },
     /// A guest writes a register.
     Write {
@@ -46,8 +46,8 @@ pub enum Event {
     },
     /// Posts a message to a port.
     Post {
-        /// The port: 0 to 15, or one of four for each processor of a sparse board.
-        port: u8,
+        /// The port: Port::new(0) to 15, or one of four for each processor of a sparse board.
+        port: Port,
         /// The type of the message: not 0, and bit 31 is clear.
         kind: u32,
         /// Its payload.
@@ -55,8 +55,8 @@ pub enum Event {
     },
     /// Signals an event flag of a port.
     Signal {
-        /// The port: 0 to 15, or one of four for each processor of a sparse board.
-        port: u8,
+        /// The port: Port::new(0) to 15, or one of four for each processor of a sparse board.
+        port: Port,
         /// The number of the flag within the port, from 0 on.
         flag: u16,
     },
@@ -155,18 +155,18 @@ impl Event {
     pub(crate) fn to_plain(self) -> sys::synicboard_event {
         match self {
             Event::OpenPort { port, vp, sint, shape } => {
-                sys::synicboard_event { port, vp, sint, ..shape.to_plain() }
+                sys::synicboard_event { port: port.number(), vp, sint, ..shape.to_plain() }
             }
-            Event::ClosePort { port } => plain!(SYNICBOARD_CLOSE_PORT, port: port),
+            Event::ClosePort { port } => plain!(SYNICBOARD_CLOSE_PORT, port: port.number()),
             Event::Write { vp, register, value } => {
                 plain!(SYNICBOARD_WRITE, vp: vp, msr: register, value: value)
             }
             Event::Read { vp, register } => plain!(SYNICBOARD_READ, vp: vp, msr: register),
             Event::Post { port, kind, payload } => {
                 let (length, bytes) = payload.padded();
-                plain!(SYNICBOARD_POST, port: port, message_type: kind, length: length, bytes: bytes)
+                plain!(SYNICBOARD_POST, port: port.number(), message_type: kind, length: length, bytes: bytes)
             }
-            Event::Signal { port, flag } => plain!(SYNICBOARD_SIGNAL, port: port, flag: flag),
+            Event::Signal { port, flag } => plain!(SYNICBOARD_SIGNAL, port: port.number(), flag: flag),
             Event::Assert { vp, vector } => plain!(SYNICBOARD_ASSERT, vp: vp, vector: vector.number()),
             Event::Absorb { vp, part, bits } => plain!(SYNICBOARD_ABSORB, vp: vp, part: part, value: bits),
             Event::Store { address, bytes } => {

@@ -10,8 +10,9 @@
 //! and also records its history, for traces. Devices raise vectors without the lock through a [`Line`].
 //! `docs/EMBEDDING.md` describes the run loop of a host, and `examples/rust/loop.rs` is one.
 //!
-//! Times are in units of 100 ns. Processors, sources, ports, registers and pages are plain integers
-//! in arguments, which the board checks; in results their range is in the type.
+//! Times are in units of 100 ns. A [`Port`], a [`Ticket`] and a [`Vector`] have types of their own. Processors,
+//! sources, registers and pages are plain integers in arguments, which the board checks; in results their range
+//! is in the type.
 //!
 //! The library is linked from the folder that the environment variable `SYNICBOARD_LIB_DIR` names
 //! when the crate is built, absolute or relative to the crate's folder, or else from `build` at the
@@ -47,14 +48,16 @@ pub use live::{LiveBoard, LiveReply};
 pub use notice::{Notice, Notices, MOST_NOTICES};
 pub use recorded::{NoEntry, NoticeRoom, RecordedBoard, Settled};
 pub use reply::{EventFault, Refusal, Reply};
-pub use terms::{Moment, OutOfRange, Owner, Sint, Ticket, TimerId, Vector, Vp};
+pub use terms::{Moment, OutOfRange, Owner, Port, Sint, Ticket, TimerId, Vector, Vp};
 pub use text::{check, format_entry, replay, End, FormatFault, Verdict};
 pub use tsc::TscPage;
 pub use view::{Changes, Owners, View, WideChanges, WideView};
 
 /// Panics if the library that runs is of another major version than this crate, or older: its structs may differ.
 fn same_library() {
-    let ours = 10_000 * sys::SYNICBOARD_VERSION_MAJOR + 100 * sys::SYNICBOARD_VERSION_MINOR + sys::SYNICBOARD_VERSION_PATCH;
+    let ours = 10_000 * sys::SYNICBOARD_VERSION_MAJOR
+        + 100 * sys::SYNICBOARD_VERSION_MINOR
+        + sys::SYNICBOARD_VERSION_PATCH;
     // SAFETY: it takes nothing and changes nothing.
     let theirs = unsafe { sys::synicboard_version() };
     let is_same = theirs / 10_000 == sys::SYNICBOARD_VERSION_MAJOR && theirs >= ours;

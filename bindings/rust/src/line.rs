@@ -52,10 +52,10 @@ pub enum Raised {
 /// ```
 /// use std::sync::Mutex;
 /// use std::thread;
-/// use synicboard::{Board, Line, Raised, Reply, Vector};
+/// use synicboard::{Board, Line, Raised, Reply, Ticket, Vector};
 ///
 /// # fn main() -> Result<(), Box<dyn std::error::Error>> {
-/// let board = Mutex::new(Board::open(1, 1, 0)?);
+/// let board = Mutex::new(Board::open(1, 1, Ticket::new(0))?);
 /// let mut line = Line::open(1)?;
 /// let mut of_device = line.split()?;
 /// let vector = Vector::new(0x60).expect("it is above 15");

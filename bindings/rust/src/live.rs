@@ -2,7 +2,9 @@
 
 use crate::board::ask;
 use crate::notice::{LiveRoom, LIVE_ROOM};
-use crate::{beyond_the_header, sys, Answer, AnswerRoom, Board, Event, Forwarded, Line, Moment, Notices, Reply, Vp};
+use crate::{
+    beyond_the_header, sys, Answer, AnswerRoom, Board, Event, Forwarded, Line, Moment, Notices, Reply, Vp,
+};
 use core::fmt;
 use core::ptr;
 
@@ -27,16 +29,17 @@ pub struct LiveReply {
 /// then the event.
 ///
 /// ```
-/// use synicboard::{Board, Event, Notice, PayloadBytes, PortShape, Reply, Vp};
+/// use synicboard::{Board, Event, Notice, PayloadBytes, Port, PortShape, Reply, Ticket, Vp};
 ///
-/// let mut board = Board::open_sparse(1, 0).unwrap().into_live().unwrap();
+/// let mut board = Board::open_sparse(1, Ticket::new(0)).unwrap().into_live().unwrap();
 /// for (register, value) in [(0x4000_0080, 1), (0x4000_0083, 0x2001), (0x4000_0092, 0x50)] {
 ///     assert_eq!(board.perform(&Event::Write { vp: 0, register, value }).reply, Reply::Done);
 /// }
 /// let shape = PortShape::Messages { buffers: 2 };
-/// assert_eq!(board.perform(&Event::OpenPort { port: 3, vp: 0, sint: 2, shape }).reply, Reply::Done);
+/// assert_eq!(board.perform(&Event::OpenPort { port: Port::new(3), vp: 0, sint: 2, shape }).reply, Reply::Done);
 /// let payload = PayloadBytes::new(b"hello").unwrap();
-/// assert_eq!(board.perform(&Event::Post { port: 3, kind: 1, payload }).reply, Reply::Accepted(0));
+/// let post = Event::Post { port: Port::new(3), kind: 1, payload };
+/// assert_eq!(board.perform(&post).reply, Reply::Accepted(Ticket::new(0)));
 ///
 /// // The guest, on another processor, reads the message and empties the slot.
 /// let slot = board.message_page(Vp::new(0).unwrap()).wrapping_add(0x200).cast::<u32>();
@@ -44,7 +47,7 @@ pub struct LiveReply {
 /// unsafe { slot.write_volatile(0) };
 ///
 /// assert_eq!(board.observe(0), Reply::Done);
-/// assert!(matches!(board.notices().next(), Some(Notice::Consumed { ticket: 0, .. })));
+/// assert!(matches!(board.notices().next(), Some(Notice::Consumed { ticket, .. }) if ticket == Ticket::new(0)));
 /// ```
 pub struct LiveBoard {
     board: Board,
@@ -108,7 +111,13 @@ impl LiveBoard {
     }
 
     /// [`Board::step`] on a board with live pages.
-    pub fn step(&mut self, now: Moment, event: Option<&Event>, assisted: u64, room: &mut AnswerRoom) -> Answer {
+    pub fn step(
+        &mut self,
+        now: Moment,
+        event: Option<&Event>,
+        assisted: u64,
+        room: &mut AnswerRoom,
+    ) -> Answer {
         self.board.step(now, event, assisted, room)
     }
 

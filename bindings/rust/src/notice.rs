@@ -106,7 +106,7 @@ impl Notice {
         let vp = Vp::new(plain.vp)?;
         let sint = Sint::new(plain.sint)?;
         let index = TimerId::new(vp, plain.timer)?.index();
-        let (ticket, flag, due, count) = (plain.ticket, plain.flag, plain.due, plain.count);
+        let (ticket, flag, due, count) = (Ticket::new(plain.ticket), plain.flag, plain.due, plain.count);
         Some(match plain.kind {
             sys::SYNICBOARD_NOTICE_ACCEPTED => Notice::Accepted { ticket, vp, sint },
             sys::SYNICBOARD_NOTICE_PLACED => Notice::Placed { ticket, vp, sint },

@@ -69,10 +69,10 @@ pub struct Settled {
 ///
 /// ```
 /// use std::thread;
-/// use synicboard::{Event, NoticeRoom, RecordedBoard, Verdict};
+/// use synicboard::{Event, NoticeRoom, RecordedBoard, Ticket, Verdict};
 ///
 /// # fn main() -> Result<(), synicboard::OpenFault> {
-/// let board = RecordedBoard::open(2, 1, 0)?;
+/// let board = RecordedBoard::open(2, 1, Ticket::new(0))?;
 /// thread::scope(|scope| {
 ///     for vp in 0..2 {
 ///         let board = &board;
@@ -121,7 +121,7 @@ impl RecordedBoard {
     pub fn open(processors: u8, pages: u8, first_ticket: Ticket) -> Result<RecordedBoard, OpenFault> {
         crate::same_library();
         let board = RecordedBoard { handle: UnsafeCell::new(sys::SYNICBOARD_SHARED_CLOSED) };
-        OpenFault::judged(ask!(board, synicboard_open_recorded, processors, pages, first_ticket))?;
+        OpenFault::judged(ask!(board, synicboard_open_recorded, processors, pages, first_ticket.number()))?;
         Ok(board)
     }
 

@@ -45,16 +45,16 @@ impl Reply {
     /// For `?`: whether the event was performed.
     ///
     /// ```
-    /// use synicboard::{Board, EventFault, Refusal};
+    /// use synicboard::{Board, EventFault, Port, Refusal, Ticket};
     ///
-    /// fn set_up(board: &mut Board) -> Result<u64, EventFault> {
+    /// fn set_up(board: &mut Board) -> Result<Ticket, EventFault> {
     ///     board.write(0, 0x4000_0080, 1).done()?;
-    ///     board.open_message_port(3, 0, 2, 2).done()?;
-    ///     board.post(3, 1, b"hello").ticket()
+    ///     board.open_message_port(Port::new(3), 0, 2, 2).done()?;
+    ///     board.post(Port::new(3), 1, b"hello").ticket()
     /// }
     ///
-    /// let mut board = Board::open(1, 1, 7).unwrap();
-    /// assert_eq!(set_up(&mut board), Ok(7));
+    /// let mut board = Board::open(1, 1, Ticket::new(7)).unwrap();
+    /// assert_eq!(set_up(&mut board), Ok(Ticket::new(7)));
     /// assert_eq!(set_up(&mut board), Err(EventFault::Refused(Refusal::PortOpen)));
     /// ```
     ///
@@ -152,7 +152,7 @@ impl Reply {
             sys::SYNICBOARD_BYTES => first(&plain.bytes, plain.length).map(Reply::Bytes),
             sys::SYNICBOARD_TAKEN => Vector::new(plain.vector).map(|v| Reply::Taken(Some(v))),
             sys::SYNICBOARD_NONE_TAKEN => Some(Reply::Taken(None)),
-            sys::SYNICBOARD_ACCEPTED => Some(Reply::Accepted(plain.ticket)),
+            sys::SYNICBOARD_ACCEPTED => Some(Reply::Accepted(Ticket::new(plain.ticket))),
             sys::SYNICBOARD_FLAG_WAS_CLEAR => Some(Reply::FlagWasClear),
             sys::SYNICBOARD_FLAG_WAS_SET => Some(Reply::FlagWasSet),
             sys::SYNICBOARD_GENERAL_PROTECTION => Some(Reply::GeneralProtection),
@@ -176,7 +176,9 @@ impl Reply {
                 sys::synicboard_reply { vector: vector.number(), ..of_kind(sys::SYNICBOARD_TAKEN) }
             }
             Reply::Taken(None) => of_kind(sys::SYNICBOARD_NONE_TAKEN),
-            Reply::Accepted(ticket) => sys::synicboard_reply { ticket, ..of_kind(sys::SYNICBOARD_ACCEPTED) },
+            Reply::Accepted(ticket) => {
+                sys::synicboard_reply { ticket: ticket.number(), ..of_kind(sys::SYNICBOARD_ACCEPTED) }
+            }
             Reply::FlagWasClear => of_kind(sys::SYNICBOARD_FLAG_WAS_CLEAR),
             Reply::FlagWasSet => of_kind(sys::SYNICBOARD_FLAG_WAS_SET),
             Reply::GeneralProtection => of_kind(sys::SYNICBOARD_GENERAL_PROTECTION),

@@ -48,7 +48,7 @@ pub const SYNICBOARD_NO_LINE: u8 = 7;
 pub const SYNICBOARD_NO_EVENT: u8 = 8;
 /// Outcome: one more reply, or `SYNICBOARD_MOST_NOTICES` more notices, might not fit.
 pub const SYNICBOARD_NO_ROOM: u8 = 9;
-/// Outcome: `line` is the first wrong line, counted from 1.
+/// Outcome: a line of the text is wrong; `line` is the first, from 1.
 pub const SYNICBOARD_WRONG_LINE: u8 = 10;
 /// Outcome: more than 1,073,741,824 bytes, and no line of these is wrong.
 pub const SYNICBOARD_TOO_LONG: u8 = 11;
@@ -655,7 +655,8 @@ extern "C" {
     pub fn synicboard_perform(board: *mut synicboard, event: *const synicboard_event) -> synicboard_reply;
 
     /// Copies the notices of the last event, as many as fit, and returns how many there are.
-    pub fn synicboard_notices(board: *const synicboard, room: *mut synicboard_notice, length: usize) -> usize;
+    pub fn synicboard_notices(board: *const synicboard, room: *mut synicboard_notice, length: usize)
+        -> usize;
 
     /// Performs events in order, as long as each is valid and its reply and notices fit.
     pub fn synicboard_perform_all(
@@ -787,11 +788,7 @@ extern "C" {
     /// Writes the image of a board to a buffer, as much as fits.
     pub fn synicboard_save(board: *mut synicboard, room: *mut u8, length: usize) -> synicboard_end;
     /// Restores a board from an image, in a closed handle.
-    pub fn synicboard_restore(
-        board: *mut synicboard,
-        image: *const u8,
-        length: usize,
-    ) -> synicboard_end;
+    pub fn synicboard_restore(board: *mut synicboard, image: *const u8, length: usize) -> synicboard_end;
     /// Checks whether a text is the trace of a legal history.
     pub fn synicboard_check(trace: *const u8, length: usize) -> synicboard_verdict;
     /// Writes the two lines of a trace entry for an event and its reply to a buffer, as much as

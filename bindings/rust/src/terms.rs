@@ -2,13 +2,67 @@
 
 use core::error::Error;
 use core::fmt;
-use core::num::NonZeroU8;
+use core::num::{NonZeroU8, ParseIntError};
+use core::str::FromStr;
 
 /// A time of the partition reference counter, in units of 100 ns.
 pub type Moment = u64;
 
-/// The ticket of an accepted message. No ticket is given twice. The greatest is 2^64 - 2.
-pub type Ticket = u64;
+/// The ticket of an accepted message. No ticket is given twice. The greatest is 2^64 - 2; a board whose next
+/// ticket is 2^64 - 1 accepts no message.
+#[derive(Clone, Copy, PartialEq, Eq, PartialOrd, Ord, Hash, Debug, Default)]
+pub struct Ticket(u64);
+
+/// The number of a port: Port::new(0) to 15, or one of four for each processor of a sparse board. The board refuses any
+/// other.
+#[derive(Clone, Copy, PartialEq, Eq, PartialOrd, Ord, Hash, Debug, Default)]
+pub struct Port(u8);
+
+/// A number without a range of its own.
+macro_rules! any_number {
+    ($kind:ident, $plain:ident) => {
+        impl $kind {
+            #[doc = concat!("The ", stringify!($kind), " with this number.")]
+            pub const fn new(number: $plain) -> $kind {
+                $kind(number)
+            }
+
+            /// Its number.
+            pub const fn number(self) -> $plain {
+                self.0
+            }
+        }
+
+        impl From<$plain> for $kind {
+            fn from(number: $plain) -> $kind {
+                $kind(number)
+            }
+        }
+
+        impl From<$kind> for $plain {
+            fn from(named: $kind) -> $plain {
+                named.0
+            }
+        }
+
+        impl FromStr for $kind {
+            type Err = ParseIntError;
+
+            fn from_str(text: &str) -> Result<$kind, ParseIntError> {
+                text.parse().map($kind)
+            }
+        }
+
+        impl fmt::Display for $kind {
+            fn fmt(&self, formatter: &mut fmt::Formatter<'_>) -> fmt::Result {
+                self.0.fmt(formatter)
+            }
+        }
+    };
+}
+
+any_number!(Ticket, u64);
+any_number!(Port, u8);
 
 /// A virtual processor, 0 to 63.
 #[derive(Clone, Copy, PartialEq, Eq, PartialOrd, Ord, Hash, Debug, Default)]

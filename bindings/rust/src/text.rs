@@ -129,9 +129,9 @@ impl Error for FormatFault {}
 /// which they hold the lock. `actor` is the number of the thread. Allocates the lines, and frees them.
 ///
 /// ```
-/// use synicboard::{format_entry, Board, Event};
+/// use synicboard::{Board, Event, Ticket, format_entry};
 ///
-/// let mut board = Board::open(1, 1, 0).unwrap();
+/// let mut board = Board::open(1, 1, Ticket::new(0)).unwrap();
 /// let event = Event::Take { vp: 0 };
 /// let reply = board.perform(&event);
 /// let mut room = [0; 535];

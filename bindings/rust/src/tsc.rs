@@ -1,7 +1,8 @@
 //! The reference TSC page.
 
 use crate::sys::{
-    synicboard_tsc_page, synicboard_tsc_page_at, synicboard_tsc_page_moved, synicboard_tsc_time, synicboard_tsc_until,
+    synicboard_tsc_page, synicboard_tsc_page_at, synicboard_tsc_page_moved, synicboard_tsc_time,
+    synicboard_tsc_until,
 };
 use crate::terms::Moment;
 

@@ -15,10 +15,10 @@ const NOTHING: sys::synicboard_page_owner =
 /// [`update`](crate::Board::update).
 ///
 /// ```
-/// use synicboard::{Board, Vector, View};
+/// use synicboard::{Board, Ticket, Vector, View};
 ///
 /// # fn main() -> Result<(), synicboard::OpenFault> {
-/// let mut board = Board::open(2, 4, 0)?;
+/// let mut board = Board::open(2, 4, Ticket::new(0))?;
 /// let mut view = View::default();
 /// assert!(!board.update(&mut view).any());
 ///
@@ -54,7 +54,11 @@ impl Default for View {
 
 impl fmt::Debug for View {
     fn fmt(&self, formatter: &mut fmt::Formatter<'_>) -> fmt::Result {
-        formatter.debug_struct("View").field("next", &self.0.next).field("earliest", &self.earliest()).finish()
+        formatter
+            .debug_struct("View")
+            .field("next", &self.0.next)
+            .field("earliest", &self.earliest())
+            .finish()
     }
 }
 
@@ -62,10 +66,10 @@ impl fmt::Debug for View {
 /// [`update_wide`](crate::Board::update_wide).
 ///
 /// ```
-/// use synicboard::{Board, Vector, WideView};
+/// use synicboard::{Board, Ticket, Vector, WideView};
 ///
 /// # fn main() -> Result<(), synicboard::OpenFault> {
-/// let mut board = Board::open_sparse(64, 0)?;
+/// let mut board = Board::open_sparse(64, Ticket::new(0))?;
 /// let mut view = WideView::default();
 /// let vector = Vector::new(0x50).expect("a vector from 16 on");
 /// board.assert(63, vector);
@@ -99,7 +103,11 @@ impl Default for WideView {
 
 impl fmt::Debug for WideView {
     fn fmt(&self, formatter: &mut fmt::Formatter<'_>) -> fmt::Result {
-        formatter.debug_struct("WideView").field("next", &self.0.next).field("earliest", &self.earliest()).finish()
+        formatter
+            .debug_struct("WideView")
+            .field("next", &self.0.next)
+            .field("earliest", &self.earliest())
+            .finish()
     }
 }
 

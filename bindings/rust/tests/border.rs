@@ -1,15 +1,14 @@
 //! The safe calls at their limits: sizes, numbers, too many bytes, missing objects, pages, notices,
-//! memory that is freed, and boards in other threads.
+//! and boards in other threads.
 
 use std::error::Error;
-use std::fs;
 use std::sync::Mutex;
 use std::thread;
 use synicboard::msr::{EOI, SCONTROL, SIEFP, SIMP, SINT0, STIMER0_CONFIG, STIMER0_COUNT, SVERSION};
 use synicboard::{
-    check, format_entry, replay, AnswerRoom, Board, Bytes8, End, Event, EventFault, Line, Notice, OpenFault, Owner, PayloadBytes,
-    PortShape,
-    Refusal, Reply, RestoreFault, Sint, FormatFault, TimerId, Vector, Verdict, Vp, MOST_NOTICES,
+    check, format_entry, replay, AnswerRoom, Board, Bytes8, End, Event, EventFault, FormatFault, Notice,
+    OpenFault, Owner, PayloadBytes, Port, PortShape, Refusal, Reply, RestoreFault, Sint, Ticket, TimerId,
+    Vector, Verdict, Vp, MOST_NOTICES,
 };
 
 const VP: Vp = Vp::new(0).unwrap();
@@ -19,7 +18,7 @@ const VECTOR: Vector = Vector::new(0x50).unwrap();
 /// A board whose processor 0 has its SynIC enabled, its message page at page 2, its event flags
 /// page at page 3, and vector 50 at SINT2.
 fn booted(processors: u8, pages: u8, first_ticket: u64) -> Board {
-    let mut board = Board::open(processors, pages, first_ticket).unwrap();
+    let mut board = Board::open(processors, pages, Ticket::new(first_ticket)).unwrap();
     let registers = [(SCONTROL, 1), (SIMP, 0x2001), (SIEFP, 0x3001), (SINT0 + 2, 0x50)];
     for (register, value) in registers {
         assert_eq!(board.write(0, register, value), Reply::Done);
@@ -30,14 +29,14 @@ fn booted(processors: u8, pages: u8, first_ticket: u64) -> Board {
 #[test]
 fn a_board_has_1_to_8_processors_and_1_to_64_pages() {
     for (processors, pages) in [(0, 1), (9, 1), (255, 1), (1, 0), (1, 65), (1, 255), (0, 0)] {
-        let fault = Board::open(processors, pages, 0).unwrap_err();
+        let fault = Board::open(processors, pages, Ticket::new(0)).unwrap_err();
         assert_eq!(fault, OpenFault::BadSize);
         assert_eq!(fault.to_string(), "the sizes are outside the limits");
     }
     for (processors, pages) in [(1, 1), (8, 64)] {
-        let board = Board::open(processors, pages, 7).unwrap();
+        let board = Board::open(processors, pages, Ticket::new(7)).unwrap();
         assert_eq!((board.processors(), board.pages()), (processors, pages));
-        assert_eq!((board.moment(), board.next_ticket()), (0, 7));
+        assert_eq!((board.moment(), board.next_ticket()), (0, Ticket::new(7)));
         assert_eq!(board.notices().len(), 0);
     }
 }
@@ -45,10 +44,10 @@ fn a_board_has_1_to_8_processors_and_1_to_64_pages() {
 #[test]
 fn a_sparse_board_has_1_to_64_processors_and_no_page() {
     for processors in [0, 65, 255] {
-        assert_eq!(Board::open_sparse(processors, 0).unwrap_err(), OpenFault::BadSize);
+        assert_eq!(Board::open_sparse(processors, Ticket::new(0)).unwrap_err(), OpenFault::BadSize);
     }
-    let mut board = Board::open_sparse(64, 7).unwrap();
-    assert_eq!((board.processors(), board.pages(), board.next_ticket()), (64, 0, 7));
+    let mut board = Board::open_sparse(64, Ticket::new(7)).unwrap();
+    assert_eq!((board.processors(), board.pages(), board.next_ticket()), (64, 0, Ticket::new(7)));
     assert_eq!(board.next_overlay(0), None);
     let last = (1 << 52) - 1;
     assert_eq!(board.write(63, SIEFP, last << 12 | 1), Reply::Done);
@@ -61,12 +60,15 @@ fn a_sparse_board_has_1_to_64_processors_and_no_page() {
     let mut room = [0; 16384];
     let length = board.save(&mut room).unwrap();
     let restored = Board::restore(&room[..length]).unwrap();
-    assert_eq!((restored.processors(), restored.pages(), restored.next_overlay(6)), (64, 0, board.next_overlay(6)));
+    assert_eq!(
+        (restored.processors(), restored.pages(), restored.next_overlay(6)),
+        (64, 0, board.next_overlay(6))
+    );
 }
 
 #[test]
 fn the_earliest_after_a_time_is_later() {
-    let mut board = Board::open(1, 1, 0).unwrap();
+    let mut board = Board::open(1, 1, Ticket::new(0)).unwrap();
     assert_eq!(board.earliest_after(0), None);
     assert_eq!(board.write(0, STIMER0_COUNT, 5), Reply::Done);
     assert_eq!(board.write(0, STIMER0_CONFIG, 0x2_0001), Reply::Done);
@@ -100,24 +102,24 @@ fn bytes_are_equal_where_their_slices_are() {
 fn each_refusal_comes_and_has_its_number() {
     let mut board = booted(2, 4, 0);
     let ready = [
-        board.open_message_port(3, 0, 2, 1),
-        board.open_event_port(5, 0, 3, 0, 8),
-        board.open_message_port(6, 1, 2, 1),
+        board.open_message_port(Port::new(3), 0, 2, 1),
+        board.open_event_port(Port::new(5), 0, 3, 0, 8),
+        board.open_message_port(Port::new(6), 1, 2, 1),
         board.tick(10),
         board.suspend(1),
     ];
     assert_eq!(ready, [Reply::Done; 5]);
-    assert_eq!(board.post(3, 1, &[]), Reply::Accepted(0));
-    assert_eq!(board.post(3, 1, &[]), Reply::Accepted(1));
+    assert_eq!(board.post(Port::new(3), 1, &[]), Reply::Accepted(Ticket::new(0)));
+    assert_eq!(board.post(Port::new(3), 1, &[]), Reply::Accepted(Ticket::new(1)));
     let refused = [
-        board.close_port(16),
-        board.open_message_port(3, 0, 2, 1),
-        board.signal(3, 0),
-        board.open_message_port(4, 2, 2, 1),
-        board.post(3, 0, &[]),
-        board.signal(5, 8),
-        board.post(6, 1, &[]),
-        board.post(3, 1, &[]),
+        board.close_port(Port::new(16)),
+        board.open_message_port(Port::new(3), 0, 2, 1),
+        board.signal(Port::new(3), 0),
+        board.open_message_port(Port::new(4), 2, 2, 1),
+        board.post(Port::new(3), 0, &[]),
+        board.signal(Port::new(5), 8),
+        board.post(Port::new(6), 1, &[]),
+        board.post(Port::new(3), 1, &[]),
         spent(),
         board.tick(9),
         board.load(0x4000, 1),
@@ -126,7 +128,7 @@ fn each_refusal_comes_and_has_its_number() {
         board.take(2),
         board.suspend(1),
         board.resume(0),
-        Board::open_sparse(1, 0).unwrap().load(0, 1),
+        Board::open_sparse(1, Ticket::new(0)).unwrap().load(0, 1),
     ];
     let refusals = Refusal::ALL.map(Reply::Refused);
     assert_eq!(refused, refusals);
@@ -136,8 +138,8 @@ fn each_refusal_comes_and_has_its_number() {
 
 fn spent() -> Reply {
     let mut board = booted(1, 1, u64::MAX);
-    assert_eq!(board.open_message_port(3, 0, 2, 1), Reply::Done);
-    board.post(3, 1, &[])
+    assert_eq!(board.open_message_port(Port::new(3), 0, 2, 1), Reply::Done);
+    board.post(Port::new(3), 1, &[])
 }
 
 #[test]
@@ -154,15 +156,16 @@ fn a_refusal_is_an_error_with_words() {
 #[test]
 fn too_many_bytes_are_no_event() {
     let mut board = booted(1, 4, 0);
-    assert_eq!(board.open_message_port(3, 0, 2, 2), Reply::Done);
-    assert_eq!(board.post(3, 1, &[7; 240]), Reply::Accepted(0));
+    assert_eq!(board.open_message_port(Port::new(3), 0, 2, 2), Reply::Done);
+    assert_eq!(board.post(Port::new(3), 1, &[7; 240]), Reply::Accepted(Ticket::new(0)));
     let told = board.notices().collect::<Vec<_>>();
     assert_eq!(told.len(), 3);
-    for reply in [board.post(3, 1, &[7; 241]), board.store(0, &[7; 9]), board.store(0, &[7; 4096])] {
+    for reply in [board.post(Port::new(3), 1, &[7; 241]), board.store(0, &[7; 9]), board.store(0, &[7; 4096])]
+    {
         assert_eq!(reply, Reply::NoEvent);
     }
     assert_eq!(board.notices().collect::<Vec<_>>(), told);
-    assert_eq!((board.next_ticket(), board.queued(0, 2)), (1, 0));
+    assert_eq!((board.next_ticket(), board.queued(0, 2)), (Ticket::new(1), 0));
     assert_eq!(board.guest_page(0).unwrap()[0], 0);
     assert_eq!(board.store(0, &[7; 8]), Reply::Done);
     assert_eq!(board.guest_page(0).unwrap()[..9], [7, 7, 7, 7, 7, 7, 7, 7, 0]);
@@ -208,7 +211,7 @@ fn looks_find_what_is_there() {
     let timer = TimerId::new(Vp::new(1).unwrap(), 3).unwrap();
     assert_eq!(board.earliest(), Some(((1 << 64) + 1, timer)));
     assert_eq!(board.moment(), 2);
-    let shown = "Board { processors: 2, pages: 4, moment: 2, next_ticket: 0, .. }";
+    let shown = "Board { processors: 2, pages: 4, moment: 2, next_ticket: Ticket(0), .. }";
     assert_eq!(format!("{board:?}"), shown);
 }
 
@@ -221,12 +224,12 @@ fn pages_stay_where_they_lie_and_show_each_event() {
         [own, guest].concat().into_iter().map(|page| page.unwrap().as_ptr()).collect::<Vec<_>>()
     };
     let before = places(&board);
-    assert_eq!(board.open_message_port(3, 0, 2, 1), Reply::Done);
-    assert_eq!(board.open_event_port(4, 0, 2, 2000, 48), Reply::Done);
-    assert_eq!(board.post(3, 1, &[0xab; 240]), Reply::Accepted(0));
-    assert_eq!(board.signal(4, 47), Reply::FlagWasClear);
+    assert_eq!(board.open_message_port(Port::new(3), 0, 2, 1), Reply::Done);
+    assert_eq!(board.open_event_port(Port::new(4), 0, 2, 2000, 48), Reply::Done);
+    assert_eq!(board.post(Port::new(3), 1, &[0xab; 240]), Reply::Accepted(Ticket::new(0)));
+    assert_eq!(board.signal(Port::new(4), 47), Reply::FlagWasClear);
     assert!(board.notices().eq([Notice::FlagSet { vp: VP, sint: SINT, flag: 2047 }]));
-    assert_eq!(board.signal(4, 47), Reply::FlagWasSet);
+    assert_eq!(board.signal(Port::new(4), 47), Reply::FlagWasSet);
     let (messages, flags) = (board.message_page(0).unwrap(), board.flag_page(0).unwrap());
     assert_eq!(messages[0x200..0x208], [1, 0, 0, 0, 240, 0, 0, 0]);
     assert_eq!(messages[0x210..0x300], [0xab; 240]);
@@ -240,7 +243,7 @@ fn pages_stay_where_they_lie_and_show_each_event() {
 
 #[test]
 fn a_guest_page_lies_below_its_overlay() {
-    let mut board = Board::open(1, 4, 0).unwrap();
+    let mut board = Board::open(1, 4, Ticket::new(0)).unwrap();
     assert_eq!(board.store(0x2ff8, &[1, 2, 3, 4, 5, 6, 7, 8]), Reply::Done);
     assert_eq!(board.write(0, SIMP, 0x2001), Reply::Done);
     assert_eq!(board.store(0x2ff8, &[9]), Reply::Done);
@@ -251,10 +254,10 @@ fn a_guest_page_lies_below_its_overlay() {
 #[test]
 fn notices_are_those_of_the_last_event() {
     let mut board = booted(1, 4, 5);
-    assert_eq!(board.open_message_port(3, 0, 2, 2), Reply::Done);
+    assert_eq!(board.open_message_port(Port::new(3), 0, 2, 2), Reply::Done);
     assert_eq!(board.notices().next(), None);
-    assert_eq!(board.post(3, 1, &[]), Reply::Accepted(5));
-    let (ticket, vp, sint) = (5, VP, SINT);
+    assert_eq!(board.post(Port::new(3), 1, &[]), Reply::Accepted(Ticket::new(5)));
+    let (ticket, vp, sint) = (Ticket::new(5), VP, SINT);
     let told = [
         Notice::Accepted { ticket, vp, sint },
         Notice::Placed { ticket, vp, sint },
@@ -277,7 +280,7 @@ fn notices_are_those_of_the_last_event() {
 
 #[test]
 fn posted_vectors_are_requested_the_smallest_first() {
-    let mut board = Board::open(1, 1, 0).unwrap();
+    let mut board = Board::open(1, 1, Ticket::new(0)).unwrap();
     assert_eq!(board.absorb(0, 3, 1 << 63 | 1), Reply::Done);
     let requested = |number| Notice::Requested { vp: VP, vector: Vector::new(number).unwrap() };
     assert!(board.notices().eq([requested(192), requested(255)]));
@@ -289,14 +292,14 @@ fn posted_vectors_are_requested_the_smallest_first() {
 #[test]
 fn numbers_that_no_board_has_are_refused_as_events_too() {
     let mut board = booted(1, 4, 0);
-    assert_eq!(board.open_message_port(3, 0, 2, 1), Reply::Done);
+    assert_eq!(board.open_message_port(Port::new(3), 0, 2, 1), Reply::Done);
     let shape = PortShape::Flags { base: 2048, count: 1 };
     let payload = PayloadBytes::new(&[]).unwrap();
     let refused = [
-        (Event::ClosePort { port: 16 + 3 }, Refusal::UnknownPort),
-        (Event::OpenPort { port: 4, vp: 0, sint: 2, shape }, Refusal::BadTarget),
-        (Event::Post { port: 16 + 3, kind: 1, payload }, Refusal::UnknownPort),
-        (Event::Post { port: 3, kind: 1 << 31, payload }, Refusal::BadType),
+        (Event::ClosePort { port: Port::new(19) }, Refusal::UnknownPort),
+        (Event::OpenPort { port: Port::new(4), vp: 0, sint: 2, shape }, Refusal::BadTarget),
+        (Event::Post { port: Port::new(19), kind: 1, payload }, Refusal::UnknownPort),
+        (Event::Post { port: Port::new(3), kind: 1 << 31, payload }, Refusal::BadType),
         (Event::Write { vp: 8, register: SCONTROL, value: 1 }, Refusal::NoSuchProcessor),
         (Event::Load { address: 0, length: 255 }, Refusal::BadLength),
         (Event::Load { address: u64::MAX, length: 8 }, Refusal::OutsideSpace),
@@ -310,7 +313,7 @@ fn numbers_that_no_board_has_are_refused_as_events_too() {
 
 #[test]
 fn a_late_timer_tells_when_it_was_due_and_what_it_skipped() {
-    let mut board = Board::open(1, 1, 0).unwrap();
+    let mut board = Board::open(1, 1, Ticket::new(0)).unwrap();
     assert_eq!(board.tick(100), Reply::Done);
     assert_eq!(board.write(0, STIMER0_COUNT, 10), Reply::Done);
     assert_eq!(board.write(0, STIMER0_CONFIG, 0x1403), Reply::Done);
@@ -330,9 +333,12 @@ fn a_late_timer_tells_when_it_was_due_and_what_it_skipped() {
 fn a_reset_gives_the_most_notices() {
     let mut board = booted(1, 4, 0);
     for port in 0..16 {
-        assert_eq!(board.open_message_port(port, 0, port, 16), Reply::Done);
+        assert_eq!(board.open_message_port(Port::new(port), 0, port, 16), Reply::Done);
         for number in 0..17 {
-            assert_eq!(board.post(port, 1, &[]), Reply::Accepted(17 * u64::from(port) + number));
+            assert_eq!(
+                board.post(Port::new(port), 1, &[]),
+                Reply::Accepted(Ticket::new(17 * u64::from(port) + number))
+            );
         }
     }
     for timer in 0..4 {
@@ -341,12 +347,12 @@ fn a_reset_gives_the_most_notices() {
     }
     assert_eq!(board.tick(10), Reply::Done);
     assert_eq!((board.queued(0, 0), board.queued(0, 1), board.queued(0, 16)), (16, 20, 0));
-    assert_eq!(board.next_ticket(), 276);
+    assert_eq!(board.next_ticket(), Ticket::new(276));
     assert_eq!(board.reset(0), Reply::Done);
     let notices = board.notices();
     assert_eq!(notices.len(), MOST_NOTICES);
     let mut tickets = notices.map(|notice| match notice {
-        Notice::Withdrawn { ticket, .. } => ticket,
+        Notice::Withdrawn { ticket, .. } => ticket.number(),
         notice => panic!("{notice:?}"),
     });
     assert_eq!(tickets.next(), Some(0));
@@ -355,55 +361,18 @@ fn a_reset_gives_the_most_notices() {
     assert!(tickets.into_iter().eq(1..276));
 }
 
-/// The memory of this process, in pages, if the system reports it.
-fn held() -> Option<usize> {
-    let said = fs::read_to_string("/proc/self/statm").ok()?;
-    said.split(' ').nth(1)?.parse().ok()
-}
-
-/// A board of the greatest size takes some 440 KB, so 1500 of them take more than half a gigabyte.
-#[test]
-fn a_dropped_board_gives_its_memory_back() {
-    let open = || Board::open(8, 64, 0).unwrap();
-    drop(open());
-    let before = held();
-    for _ in 0..1500 {
-        drop(open());
-    }
-    let after = held();
-    assert!(before.zip(after).is_none_or(|(before, after)| after < before + 100_000), "{before:?} {after:?}");
-}
-
-/// A line and 31 that are split off it take more than a kilobyte, so 60,000 times as many take more
-/// than 60 megabytes.
-#[test]
-fn dropped_lines_give_their_memory_back() {
-    let open = || {
-        let mut line = Line::open(8).unwrap();
-        let others = [(); 31].map(|()| line.split().unwrap());
-        (line, others)
-    };
-    drop(open());
-    let before = held();
-    for _ in 0..60_000 {
-        drop(open());
-    }
-    let after = held();
-    assert!(before.zip(after).is_none_or(|(before, after)| after < before + 10_000), "{before:?} {after:?}");
-}
-
 #[test]
 fn two_boards_know_nothing_of_each_other() {
     let (mut one, mut other) = (booted(1, 4, 0), booted(2, 8, 100));
-    assert_eq!(one.open_message_port(3, 0, 2, 2), Reply::Done);
-    assert_eq!(other.post(3, 1, &[1]), Reply::Refused(Refusal::UnknownPort));
-    assert_eq!(one.post(3, 1, &[1]), Reply::Accepted(0));
+    assert_eq!(one.open_message_port(Port::new(3), 0, 2, 2), Reply::Done);
+    assert_eq!(other.post(Port::new(3), 1, &[1]), Reply::Refused(Refusal::UnknownPort));
+    assert_eq!(one.post(Port::new(3), 1, &[1]), Reply::Accepted(Ticket::new(0)));
     assert_eq!((one.next(0), other.next(0)), (Some(VECTOR), None));
     assert_eq!((one.notices().len(), other.notices().len()), (3, 0));
     assert_eq!(other.tick(50), Reply::Done);
     assert_eq!((one.moment(), other.moment()), (0, 50));
     drop(one);
-    assert_eq!((other.next_ticket(), other.read(1, SVERSION)), (100, Reply::Value(1)));
+    assert_eq!((other.next_ticket(), other.read(1, SVERSION)), (Ticket::new(100), Reply::Value(1)));
 }
 
 /// A board is opened in one thread, used in another, and closed in a third. The board moves; its
@@ -412,9 +381,9 @@ fn two_boards_know_nothing_of_each_other() {
 fn a_board_goes_to_other_threads() {
     let mut board = booted(1, 4, 0);
     let page = board.message_page(0).unwrap().as_ptr() as usize;
-    assert_eq!(board.open_message_port(3, 0, 2, 2), Reply::Done);
+    assert_eq!(board.open_message_port(Port::new(3), 0, 2, 2), Reply::Done);
     let used = thread::spawn(move || {
-        assert_eq!(board.post(3, 1, &[1]), Reply::Accepted(0));
+        assert_eq!(board.post(Port::new(3), 1, &[1]), Reply::Accepted(Ticket::new(0)));
         vec![Box::new(board)]
     });
     let mut boards = used.join().unwrap();
@@ -426,7 +395,7 @@ fn a_board_goes_to_other_threads() {
 
 #[test]
 fn threads_share_a_board_under_a_lock() {
-    let board = Mutex::new(Board::open(8, 1, 0).unwrap());
+    let board = Mutex::new(Board::open(8, 1, Ticket::new(0)).unwrap());
     let rounds = |vp| {
         for vector in (16..=u8::MAX).filter_map(Vector::new) {
             assert_eq!(board.lock().unwrap().assert(vp, vector), Reply::Done);
@@ -448,11 +417,11 @@ fn threads_share_a_board_under_a_lock() {
 fn boards_run_side_by_side() {
     let told = |first_ticket| {
         let mut board = booted(1, 4, first_ticket);
-        assert_eq!(board.open_message_port(3, 0, 2, 2), Reply::Done);
+        assert_eq!(board.open_message_port(Port::new(3), 0, 2, 2), Reply::Done);
         for number in 0..1000 {
             let payload = PayloadBytes::new(&[7; 240]).unwrap();
-            let post = Event::Post { port: 3, kind: 1, payload };
-            assert_eq!(board.perform(&post), Reply::Accepted(first_ticket + number));
+            let post = Event::Post { port: Port::new(3), kind: 1, payload };
+            assert_eq!(board.perform(&post), Reply::Accepted(Ticket::new(first_ticket + number)));
             assert_eq!(board.take(0), Reply::Taken(Some(VECTOR)));
             assert_eq!(board.store(0x2200, &[0; 4]), Reply::Done);
             assert_eq!(board.write(0, EOI, 0), Reply::Done);
@@ -461,7 +430,7 @@ fn boards_run_side_by_side() {
     };
     let threads = [0, 5000, 10_000].map(|first| (first, thread::spawn(move || told(first))));
     for (first, thread) in threads {
-        assert_eq!(thread.join().unwrap(), first + 1000);
+        assert_eq!(thread.join().unwrap(), Ticket::new(first + 1000));
     }
 }
 
@@ -497,7 +466,7 @@ fn an_entry_that_does_not_fit_is_cut_and_counted() {
 
 #[test]
 fn an_image_that_does_not_fit_is_cut_and_counted() {
-    let mut board = Board::open(1, 1, 5).unwrap();
+    let mut board = Board::open(1, 1, Ticket::new(5)).unwrap();
     assert_eq!(board.tick(10), Reply::Done);
     let text = b"image 1\nboard 1 1 5\nmoment 10\nlapic 0 0 0 0 0 0 0 0 0 0 running\nend\n";
     for size in 0..=text.len() + 1 {
@@ -511,18 +480,18 @@ fn an_image_that_does_not_fit_is_cut_and_counted() {
 
 #[test]
 fn an_image_is_restored() {
-    let mut board = Board::open(2, 3, 5).unwrap();
+    let mut board = Board::open(2, 3, Ticket::new(5)).unwrap();
     for (register, value) in [(0x4000_0080, 1), (0x4000_0083, 0x2001), (0x4000_0092, 0x50)] {
         assert_eq!(board.write(1, register, value), Reply::Done);
     }
-    assert_eq!(board.open_message_port(3, 1, 2, 2), Reply::Done);
-    assert_eq!(board.post(3, 1, b"one"), Reply::Accepted(5));
-    assert_eq!(board.post(3, 1, b"two"), Reply::Accepted(6));
+    assert_eq!(board.open_message_port(Port::new(3), 1, 2, 2), Reply::Done);
+    assert_eq!(board.post(Port::new(3), 1, b"one"), Reply::Accepted(Ticket::new(5)));
+    assert_eq!(board.post(Port::new(3), 1, b"two"), Reply::Accepted(Ticket::new(6)));
     let mut room = vec![0; 4096];
     let length = board.save(&mut room).unwrap();
     let mut restored = Board::restore(&room[..length]).unwrap();
     assert_eq!((restored.processors(), restored.pages()), (2, 3));
-    assert_eq!(restored.post(3, 1, b"three"), board.post(3, 1, b"three"));
+    assert_eq!(restored.post(Port::new(3), 1, b"three"), board.post(Port::new(3), 1, b"three"));
     let mut again = vec![0; 4096];
     assert_eq!(restored.save(&mut again), board.save(&mut room));
     assert_eq!(again, room);
@@ -539,19 +508,25 @@ fn a_wrong_image_is_refused_at_its_first_wrong_line() {
 #[test]
 fn what_was_not_performed_has_no_entry() {
     let mut room = [b'.'; 8];
-    assert_eq!(format_entry(0, &Event::Take { vp: 0 }, &Reply::NoEvent, &mut room), Err(FormatFault::NoEvent));
+    assert_eq!(
+        format_entry(0, &Event::Take { vp: 0 }, &Reply::NoEvent, &mut room),
+        Err(FormatFault::NoEvent)
+    );
     assert_eq!(room, [b'.'; 8]);
 }
 
 #[test]
 fn a_step_moves_the_clock_and_says_what_to_do() {
-    let (mut board, mut room) = (Board::open(2, 1, 0).unwrap(), AnswerRoom::new().unwrap());
+    let (mut board, mut room) = (Board::open(2, 1, Ticket::new(0)).unwrap(), AnswerRoom::new().unwrap());
     for (register, value) in [(0x4000_0080, 1), (0x4000_00b1, 10), (0x4000_00b0, 0x1403)] {
         assert_eq!(board.write(1, register, value), Reply::Done);
     }
     let write = Event::Write { vp: 1, register: 0x4000_0070, value: 0 };
     let answer = board.step(9, Some(&write), 0, &mut room);
-    assert_eq!((answer.reply, answer.next, answer.alarm, room.notices().len()), (Some(Reply::Done), 0, Some(10), 0));
+    assert_eq!(
+        (answer.reply, answer.next, answer.alarm, room.notices().len()),
+        (Some(Reply::Done), 0, Some(10), 0)
+    );
     let answer = board.step(25, None, 3, &mut room);
     assert_eq!((answer.reply, answer.next, answer.end_assist, answer.alarm), (None, 2, 3, Some(26)));
     let vp = Vp::new(1).unwrap();
@@ -563,13 +538,13 @@ fn a_step_moves_the_clock_and_says_what_to_do() {
 
 #[test]
 fn ports_are_found_and_sources_asserted() {
-    let mut board = Board::open(2, 1, 0).unwrap();
+    let mut board = Board::open(2, 1, Ticket::new(0)).unwrap();
     let (vp, sint) = (Vp::new(1).unwrap(), Sint::new(2).unwrap());
-    assert_eq!(board.open_message_port(3, 1, 2, 5), Reply::Done);
-    assert_eq!(board.open_event_port(4, 1, 2, 8, 64), Reply::Done);
-    assert_eq!(board.port(3), Some((vp, sint, PortShape::Messages { buffers: 5 })));
-    assert_eq!(board.port(4), Some((vp, sint, PortShape::Flags { base: 8, count: 64 })));
-    assert_eq!((board.port(5), board.port(255)), (None, None));
+    assert_eq!(board.open_message_port(Port::new(3), 1, 2, 5), Reply::Done);
+    assert_eq!(board.open_event_port(Port::new(4), 1, 2, 8, 64), Reply::Done);
+    assert_eq!(board.port(Port::new(3)), Some((vp, sint, PortShape::Messages { buffers: 5 })));
+    assert_eq!(board.port(Port::new(4)), Some((vp, sint, PortShape::Flags { base: 8, count: 64 })));
+    assert_eq!((board.port(Port::new(5)), board.port(Port::new(255))), (None, None));
     assert_eq!(board.assert_source(1, 2), Reply::Done);
     assert_eq!(board.next_bits(), 0);
     assert_eq!(board.write(1, 0x4000_0092, 0x50), Reply::Done);
@@ -581,25 +556,34 @@ fn ports_are_found_and_sources_asserted() {
 
 #[test]
 fn replies_are_results() {
-    let mut board = Board::open(1, 1, 7).unwrap();
+    let mut board = Board::open(1, 1, Ticket::new(7)).unwrap();
     assert_eq!(board.read(0, 0x4000_0081).value(), Ok(1));
     assert_eq!(board.read(0, 0x4000_0000).value(), Err(EventFault::GeneralProtection));
     assert_eq!(board.load(0, 2).bytes().map(|bytes| bytes.as_ref().len()), Ok(2));
     assert_eq!(board.load(4096, 2).bytes(), Err(EventFault::Refused(Refusal::OutsideSpace)));
     assert_eq!(board.take(0).vector(), Ok(None));
     assert_eq!(board.take(1).vector(), Err(EventFault::Refused(Refusal::NoSuchProcessor)));
-    assert_eq!(board.post(3, 1, &[0; 241]).ticket(), Err(EventFault::NoEvent));
-    assert_eq!(board.signal(4, 0).is_set(), Err(EventFault::Refused(Refusal::UnknownPort)));
+    assert_eq!(board.post(Port::new(3), 1, &[0; 241]).ticket(), Err(EventFault::NoEvent));
+    assert_eq!(board.signal(Port::new(4), 0).is_set(), Err(EventFault::Refused(Refusal::UnknownPort)));
     let fault = EventFault::Refused(Refusal::UnknownPort);
-    assert_eq!(fault.to_string(), "the event was refused: the port is not open, or the board has none of that number");
+    assert_eq!(
+        fault.to_string(),
+        "the event was refused: the port is not open, or the board has none of that number"
+    );
     assert!(fault.source().is_some() && EventFault::NoEvent.source().is_none());
-    assert_eq!((Vp::try_from(63).unwrap().to_string(), Vp::try_from(64).unwrap_err().to_string()), ("63".into(), "64 is out of range".into()));
-    assert_eq!((Sint::try_from(2).unwrap().to_string(), Vector::try_from(0x50).unwrap().to_string()), ("SINT2".into(), "50".into()));
+    assert_eq!(
+        (Vp::try_from(63).unwrap().to_string(), Vp::try_from(64).unwrap_err().to_string()),
+        ("63".into(), "64 is out of range".into())
+    );
+    assert_eq!(
+        (Sint::try_from(2).unwrap().to_string(), Vector::try_from(0x50).unwrap().to_string()),
+        ("SINT2".into(), "50".into())
+    );
     assert!(Sint::try_from(16).is_err() && Vector::try_from(15).is_err());
 }
 
 #[test]
 #[should_panic(expected = "Done is no reply to a read")]
 fn a_reply_to_another_event_has_no_value() {
-    let _ = Board::open(1, 1, 0).unwrap().write(0, 0x4000_0080, 1).value();
+    let _ = Board::open(1, 1, Ticket::new(0)).unwrap().write(0, 0x4000_0080, 1).value();
 }

@@ -4,7 +4,7 @@
 use std::error::Error;
 use std::thread;
 use synicboard::msr::EOI;
-use synicboard::{Board, Line, Notice, OpenFault, Raised, Refusal, Reply, SplitFault, Vector, Vp};
+use synicboard::{Board, Line, Notice, OpenFault, Raised, Refusal, Reply, SplitFault, Ticket, Vector, Vp};
 
 const PARTS: u8 = 4;
 /// A vector of part 3 whose bit is not the first.
@@ -84,7 +84,7 @@ fn a_first_line_gives_319_and_no_other_gives_any() {
 /// All lines use the same words, even the last one after the first is dropped.
 #[test]
 fn the_words_stay_as_long_as_one_of_their_lines() {
-    let mut board = Board::open(1, 1, 0).unwrap();
+    let mut board = Board::open(1, 1, Ticket::new(0)).unwrap();
     let mut line = Line::open(1).unwrap();
     let mut others: Vec<_> = (0..319).map(|_| line.split().unwrap()).collect();
     assert_eq!(line.raise(0, VECTOR), FRESH);
@@ -101,7 +101,7 @@ fn the_words_stay_as_long_as_one_of_their_lines() {
 
 #[test]
 fn lines_of_other_words_do_not_see_each_other() {
-    let mut board = Board::open(1, 1, 0).unwrap();
+    let mut board = Board::open(1, 1, Ticket::new(0)).unwrap();
     let (mut one, mut other) = (Line::open(1).unwrap(), Line::open(1).unwrap());
     assert_eq!((one.raise(0, VECTOR), one.raise(0, VECTOR)), (FRESH, ALREADY));
     absorbs(&mut board, &mut other, 0, PART, &[]);
@@ -113,7 +113,7 @@ fn lines_of_other_words_do_not_see_each_other() {
 
 #[test]
 fn a_vector_is_fresh_again_behind_an_absorb_of_its_part() {
-    let mut board = Board::open(2, 1, 0).unwrap();
+    let mut board = Board::open(2, 1, Ticket::new(0)).unwrap();
     let mut line = Line::open(2).unwrap();
     for vector in vectors() {
         assert_eq!((line.raise(1, vector), line.raise(1, vector)), (FRESH, ALREADY));
@@ -138,7 +138,7 @@ fn a_vector_is_fresh_again_behind_an_absorb_of_its_part() {
 fn an_absorb_requests_what_was_raised_in_its_part() {
     let numbers = [16, 17, 63, 64, 65, 127, 128, 190, 191, 192, 254, 255];
     let raised = numbers.map(|number| Vector::new(number).unwrap());
-    let mut board = Board::open(8, 1, 0).unwrap();
+    let mut board = Board::open(8, 1, Ticket::new(0)).unwrap();
     let mut line = Line::open(8).unwrap();
     for vector in raised.into_iter().rev() {
         assert_eq!((line.raise(2, vector), line.raise(7, vector)), (FRESH, FRESH));
@@ -152,7 +152,7 @@ fn an_absorb_requests_what_was_raised_in_its_part() {
 
 #[test]
 fn all_vectors_of_a_part_are_absorbed_at_once() {
-    let mut board = Board::open(8, 1, 0).unwrap();
+    let mut board = Board::open(8, 1, Ticket::new(0)).unwrap();
     let mut line = Line::open(8).unwrap();
     for vp in 0..8 {
         for vector in vectors() {
@@ -170,7 +170,7 @@ fn all_vectors_of_a_part_are_absorbed_at_once() {
 /// The bit of a vector that is already requested is cleared, without a notice.
 #[test]
 fn an_absorb_tells_which_bits_it_took() -> Result<(), Box<dyn Error>> {
-    let (mut board, mut line) = (Board::open(1, 1, 0)?, Line::open(1)?);
+    let (mut board, mut line) = (Board::open(1, 1, Ticket::new(0))?, Line::open(1)?);
     for vector in [0xc0, 0xc5, 0xff] {
         assert_eq!(line.raise(0, Vector::new(vector).unwrap()), FRESH);
     }
@@ -183,7 +183,7 @@ fn an_absorb_tells_which_bits_it_took() -> Result<(), Box<dyn Error>> {
 
 #[test]
 fn what_is_requested_already_is_not_told_again() {
-    let mut board = Board::open(1, 1, 0).unwrap();
+    let mut board = Board::open(1, 1, Ticket::new(0)).unwrap();
     let mut line = Line::open(1).unwrap();
     assert_eq!(line.raise(0, VECTOR), FRESH);
     absorbs(&mut board, &mut line, 0, PART, &[VECTOR]);
@@ -198,7 +198,8 @@ fn what_is_requested_already_is_not_told_again() {
 /// If the board has no such processor or part, the bits stay for the next absorb.
 #[test]
 fn an_absorb_that_is_refused_takes_nothing() {
-    let (mut narrow, mut wide) = (Board::open(1, 1, 0).unwrap(), Board::open(2, 1, 0).unwrap());
+    let (mut narrow, mut wide) =
+        (Board::open(1, 1, Ticket::new(0)).unwrap(), Board::open(2, 1, Ticket::new(0)).unwrap());
     let mut line = Line::open(2).unwrap();
     assert_eq!((line.raise(1, VECTOR), line.raise(0, VECTOR)), (FRESH, FRESH));
     assert_eq!(narrow.assert(0, VECTOR), Reply::Done);
@@ -221,7 +222,7 @@ fn an_absorb_that_is_refused_takes_nothing() {
 /// Words of fewer processors than the board has yield nothing for the others.
 #[test]
 fn words_of_fewer_processors_give_nothing_for_the_others() {
-    let mut board = Board::open(8, 1, 0).unwrap();
+    let mut board = Board::open(8, 1, Ticket::new(0)).unwrap();
     let mut line = Line::open(2).unwrap();
     assert_eq!((line.raise(0, VECTOR), line.raise(1, VECTOR), line.raise(2, VECTOR)), (FRESH, FRESH, None));
     for vp in 2..8 {
@@ -234,7 +235,7 @@ fn words_of_fewer_processors_give_nothing_for_the_others() {
 /// Suspending and resetting affect only the board: raised bits stay set.
 #[test]
 fn a_suspension_and_a_reset_leave_what_was_raised() {
-    let mut board = Board::open(1, 1, 0).unwrap();
+    let mut board = Board::open(1, 1, Ticket::new(0)).unwrap();
     let mut line = Line::open(1).unwrap();
     assert_eq!(board.suspend(0), Reply::Done);
     assert_eq!(line.raise(0, VECTOR), FRESH);
@@ -250,7 +251,7 @@ fn a_suspension_and_a_reset_leave_what_was_raised() {
 /// A line is opened in one thread, used in another, and dropped in a third.
 #[test]
 fn a_line_goes_to_other_threads() {
-    let mut board = Board::open(1, 1, 0).unwrap();
+    let mut board = Board::open(1, 1, Ticket::new(0)).unwrap();
     let mut line = Line::open(1).unwrap();
     let mut other = line.split().unwrap();
     let used = thread::spawn(move || {
@@ -327,7 +328,7 @@ fn of_all_raises_one_is_fresh() {
     let devices: Vec<_> = spawned.collect();
     let fresh: Vec<_> = devices.into_iter().map(|device| device.join().unwrap()).collect();
     assert_eq!(sums(&fresh), all_vectors(1));
-    let (mut board, mut absorbed) = (Board::open(8, 1, 0).unwrap(), all_vectors(0));
+    let (mut board, mut absorbed) = (Board::open(8, 1, Ticket::new(0)).unwrap(), all_vectors(0));
     absorb_all(&mut board, &mut line, &mut absorbed);
     assert_eq!(absorbed, all_vectors(1));
 }
@@ -336,7 +337,7 @@ fn of_all_raises_one_is_fresh() {
 /// vector that was not raised.
 #[test]
 fn each_fresh_raise_is_absorbed_once() {
-    let mut board = Board::open(8, 1, 0).unwrap();
+    let mut board = Board::open(8, 1, Ticket::new(0)).unwrap();
     let mut line = Line::open(8).unwrap();
     let mut absorbed = all_vectors(0);
     let lines: Vec<_> = (0..DEVICES).map(|device| (device, line.split().unwrap())).collect();

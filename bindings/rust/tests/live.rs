@@ -8,8 +8,8 @@ use std::thread;
 use std::time::{Duration, Instant};
 use synicboard::msr::{EOM, SCONTROL, SIEFP, SIMP, SINT0, STIMER0_CONFIG, STIMER0_COUNT};
 use synicboard::{
-    Board, Bytes8, Event, Line, LiveBoard, LiveReply, Notice, Owner, PayloadBytes, PortShape, Raised,
-    Refusal, Reply, Sint, TimerId, Vector, Vp, PAGE_BYTES,
+    Board, Bytes8, Event, Line, LiveBoard, LiveReply, Notice, Owner, PayloadBytes, Port, PortShape, Raised,
+    Refusal, Reply, Sint, Ticket, TimerId, Vector, Vp, PAGE_BYTES,
 };
 
 const VP: Vp = Vp::new(0).unwrap();
@@ -27,17 +27,17 @@ fn booted(mut board: Board) -> Board {
     for (register, value) in registers {
         assert_eq!(board.write(0, register, value), Reply::Done);
     }
-    assert_eq!(board.open_message_port(3, 0, 2, 2), Reply::Done);
-    assert_eq!(board.open_event_port(5, 0, 2, 8, 64), Reply::Done);
+    assert_eq!(board.open_message_port(Port::new(3), 0, 2, 2), Reply::Done);
+    assert_eq!(board.open_event_port(Port::new(5), 0, 2, 8, 64), Reply::Done);
     board
 }
 
 fn live() -> LiveBoard {
-    booted(Board::open(2, 4, 0).unwrap()).into_live().unwrap()
+    booted(Board::open(2, 4, Ticket::new(0)).unwrap()).into_live().unwrap()
 }
 
 fn post(payload: &[u8]) -> Event {
-    Event::Post { port: 3, kind: 1, payload: PayloadBytes::new(payload).unwrap() }
+    Event::Post { port: Port::new(3), kind: 1, payload: PayloadBytes::new(payload).unwrap() }
 }
 
 const END_MESSAGE: Event = Event::Write { vp: 0, register: EOM, value: 0 };
@@ -76,14 +76,14 @@ fn assert_notices(board: &LiveBoard, notices: &[Notice]) {
 }
 
 fn consumed(ticket: u64) -> Notice {
-    Notice::Consumed { ticket, vp: VP, sint: SINT }
+    Notice::Consumed { ticket: Ticket::new(ticket), vp: VP, sint: SINT }
 }
 
 #[test]
 fn live_pages_have_the_bytes_of_the_pages_of_the_board() {
-    let mut board = booted(Board::open(2, 4, 7).unwrap());
-    assert_eq!(board.post(3, 1, b"hello"), Reply::Accepted(7));
-    assert_eq!(board.signal(5, 63), Reply::FlagWasClear);
+    let mut board = booted(Board::open(2, 4, Ticket::new(7)).unwrap());
+    assert_eq!(board.post(Port::new(3), 1, b"hello"), Reply::Accepted(Ticket::new(7)));
+    assert_eq!(board.signal(Port::new(5), 63), Reply::FlagWasClear);
     assert_eq!(board.notices().len(), 1);
     let (messages, flags) = (*board.message_page(0).unwrap(), *board.flag_page(0).unwrap());
     let live = board.into_live().unwrap();
@@ -95,18 +95,19 @@ fn live_pages_have_the_bytes_of_the_pages_of_the_board() {
     assert_eq!(bytes(live.message_page(other)), [0; PAGE_BYTES]);
     assert_eq!(bytes(live.flag_page(other)), [0; PAGE_BYTES]);
     let board = live.board();
-    assert_eq!((board.processors(), board.pages(), board.next_ticket()), (2, 4, 8));
-    assert_eq!((board.slot_ticket(0, 2), board.next(0)), (Some(7), Some(VECTOR)));
+    assert_eq!((board.processors(), board.pages(), board.next_ticket()), (2, 4, Ticket::new(8)));
+    assert_eq!((board.slot_ticket(0, 2), board.next(0)), (Some(Ticket::new(7)), Some(VECTOR)));
     assert_eq!((board.owner(2), board.owner(3)), (Owner::Sim(VP), Owner::Sief(VP)));
     assert_eq!(*board.message_page(0).unwrap(), messages);
     assert_notices(&live, &[]);
-    let shown = "LiveBoard { board: Board { processors: 2, pages: 4, moment: 0, next_ticket: 8, .. }, .. }";
+    let shown =
+        "LiveBoard { board: Board { processors: 2, pages: 4, moment: 0, next_ticket: Ticket(8), .. }, .. }";
     assert_eq!(format!("{live:?}"), shown);
 }
 
 #[test]
 fn each_processor_has_two_pages_of_its_own() {
-    let mut board = Board::open_sparse(8, 0).unwrap().into_live().unwrap();
+    let mut board = Board::open_sparse(8, Ticket::new(0)).unwrap().into_live().unwrap();
     let processors: [Vp; 8] = core::array::from_fn(|number| Vp::new(number as u8).unwrap());
     let mut addresses: Vec<_> = processors
         .iter()
@@ -126,12 +127,18 @@ fn each_processor_has_two_pages_of_its_own() {
         let open =
             [(vp, PortShape::Messages { buffers: 1 }), (8 + vp, PortShape::Flags { base: 0, count: 2048 })];
         for (port, shape) in open {
-            assert_eq!(act(&mut board, &Event::OpenPort { port, vp, sint: 15, shape }), Reply::Done);
+            assert_eq!(
+                act(&mut board, &Event::OpenPort { port: Port::new(port), vp, sint: 15, shape }),
+                Reply::Done
+            );
         }
         let payload = PayloadBytes::new(&[]).unwrap();
-        let post = Event::Post { port: vp, kind: 100 + u32::from(vp), payload };
-        assert_eq!(act(&mut board, &post), Reply::Accepted(u64::from(vp)));
-        assert_eq!(act(&mut board, &Event::Signal { port: 8 + vp, flag: 2047 }), Reply::FlagWasClear);
+        let post = Event::Post { port: Port::new(vp), kind: 100 + u32::from(vp), payload };
+        assert_eq!(act(&mut board, &post), Reply::Accepted(Ticket::new(u64::from(vp))));
+        assert_eq!(
+            act(&mut board, &Event::Signal { port: Port::new(8 + vp), flag: 2047 }),
+            Reply::FlagWasClear
+        );
     }
     for vp in processors {
         assert_eq!(bytes(board.message_page(vp))[0xf00], 100 + vp.number());
@@ -156,12 +163,12 @@ fn a_processor_that_is_not_on_the_board_has_no_pages() {
 #[test]
 fn a_message_that_the_guest_has_emptied_is_consumed_at_the_next_look() {
     let mut board = live();
-    assert_eq!(act(&mut board, &post(b"hello")), Reply::Accepted(0));
+    assert_eq!(act(&mut board, &post(b"hello")), Reply::Accepted(Ticket::new(0)));
     let page = bytes(board.message_page(VP));
     assert_eq!(page[SLOT..SLOT + 6], [1, 0, 0, 0, 5, 0]);
     assert_eq!(page[SLOT + 16..SLOT + 21], *b"hello");
     empty(&board);
-    assert_eq!(board.board().slot_ticket(0, 2), Some(0));
+    assert_eq!(board.board().slot_ticket(0, 2), Some(Ticket::new(0)));
     assert_eq!(board.observe(0), Reply::Done);
     assert_notices(&board, &[consumed(0)]);
     assert_eq!(board.board().slot_ticket(0, 2), None);
@@ -172,11 +179,11 @@ fn a_message_that_the_guest_has_emptied_is_consumed_at_the_next_look() {
 #[test]
 fn a_post_finds_the_slot_that_the_guest_has_emptied() {
     let mut board = live();
-    assert_eq!(act(&mut board, &post(&[1])), Reply::Accepted(0));
+    assert_eq!(act(&mut board, &post(&[1])), Reply::Accepted(Ticket::new(0)));
     assert_eq!(act(&mut board, &Event::Take { vp: 0 }), Reply::Taken(Some(VECTOR)));
     empty(&board);
-    assert_eq!(act(&mut board, &post(&[2])), Reply::Accepted(1));
-    let (ticket, vp, sint) = (1, VP, SINT);
+    assert_eq!(act(&mut board, &post(&[2])), Reply::Accepted(Ticket::new(1)));
+    let (ticket, vp, sint) = (Ticket::new(1), VP, SINT);
     let placed = [
         consumed(0),
         Notice::Accepted { ticket, vp, sint },
@@ -190,10 +197,10 @@ fn a_post_finds_the_slot_that_the_guest_has_emptied() {
 #[test]
 fn an_eom_places_the_message_that_waits() {
     let mut board = live();
-    assert_eq!(act(&mut board, &post(&[1])), Reply::Accepted(0));
+    assert_eq!(act(&mut board, &post(&[1])), Reply::Accepted(Ticket::new(0)));
     assert_eq!(act(&mut board, &Event::Take { vp: 0 }), Reply::Taken(Some(VECTOR)));
-    assert_eq!(act(&mut board, &post(&[2])), Reply::Accepted(1));
-    let (ticket, vp, sint) = (1, VP, SINT);
+    assert_eq!(act(&mut board, &post(&[2])), Reply::Accepted(Ticket::new(1)));
+    let (ticket, vp, sint) = (Ticket::new(1), VP, SINT);
     assert_notices(&board, &[Notice::Accepted { ticket, vp, sint }, Notice::Pending { vp, sint }]);
     assert_eq!(bytes(board.message_page(VP))[PENDING_AT], 1);
     empty(&board);
@@ -209,7 +216,7 @@ fn an_eom_places_the_message_that_waits() {
 #[test]
 fn a_flag_that_the_guest_has_cleared_is_set_again() {
     let mut board = live();
-    let signal = Event::Signal { port: 5, flag: 63 };
+    let signal = Event::Signal { port: Port::new(5), flag: 63 };
     assert_eq!(act(&mut board, &signal), Reply::FlagWasClear);
     assert_eq!(bytes(board.flag_page(VP))[SLOT + 8], 0x80);
     assert_eq!(act(&mut board, &signal), Reply::FlagWasSet);
@@ -265,12 +272,12 @@ fn a_timer_stores_its_message_in_the_live_page() {
 fn a_reset_withdraws_what_the_guest_has_not_consumed() {
     let mut board = live();
     for ticket in 0..2 {
-        assert_eq!(act(&mut board, &post(&[1])), Reply::Accepted(ticket));
+        assert_eq!(act(&mut board, &post(&[1])), Reply::Accepted(Ticket::new(ticket)));
     }
     empty(&board);
     store(board.flag_page(VP), 0, &[0xff; 8]);
     assert_eq!(act(&mut board, &Event::Reset { vp: 0 }), Reply::Done);
-    assert_notices(&board, &[consumed(0), Notice::Withdrawn { ticket: 1, vp: VP, sint: SINT }]);
+    assert_notices(&board, &[consumed(0), Notice::Withdrawn { ticket: Ticket::new(1), vp: VP, sint: SINT }]);
     assert_eq!(bytes(board.message_page(VP)), [0; PAGE_BYTES]);
     assert_eq!(bytes(board.flag_page(VP)), [0; PAGE_BYTES]);
 }
@@ -278,18 +285,16 @@ fn a_reset_withdraws_what_the_guest_has_not_consumed() {
 #[test]
 fn an_image_has_what_the_guest_has_stored() {
     let mut board = live();
-    assert_eq!(act(&mut board, &post(&[1])), Reply::Accepted(0));
-    assert_eq!(act(&mut board, &Event::Signal { port: 5, flag: 0 }), Reply::FlagWasClear);
+    assert_eq!(act(&mut board, &post(&[1])), Reply::Accepted(Ticket::new(0)));
+    assert_eq!(act(&mut board, &Event::Signal { port: Port::new(5), flag: 0 }), Reply::FlagWasClear);
     empty(&board);
     store(board.message_page(VP), 0xfff, &[0xa5]);
     store(board.flag_page(VP), 0xfff, &[0x5a]);
     assert_ne!(board.board().message_page(0), Some(&bytes(board.message_page(VP))));
     for vp in 0..2 {
         assert_eq!(board.observe_all(vp), Reply::Done);
-        assert_notices(
-            &board,
-            if vp == 0 { &[Notice::Consumed { ticket: 0, vp: VP, sint: SINT }] } else { &[] },
-        );
+        let found = if vp == 0 { vec![consumed(0)] } else { Vec::new() };
+        assert_notices(&board, &found);
     }
     let pages = (bytes(board.message_page(VP)), bytes(board.flag_page(VP)));
     assert_eq!(board.board().message_page(0), Some(&pages.0));
@@ -301,7 +306,7 @@ fn an_image_has_what_the_guest_has_stored() {
     assert_eq!((bytes(restored.message_page(VP)), bytes(restored.flag_page(VP))), pages);
     assert_eq!((pages.0[0xfff], pages.1[0xfff], pages.1[SLOT + 1]), (0xa5, 0x5a, 1));
     assert_eq!((restored.board().processors(), restored.board().pages()), (2, 4));
-    assert_eq!(restored.board().next_ticket(), 1);
+    assert_eq!(restored.board().next_ticket(), Ticket::new(1));
 }
 
 /// The memory of this process, in pages, if the system reports it.
@@ -313,7 +318,7 @@ fn held() -> Option<usize> {
 /// The live pages of eight processors take 64 KB, so those of 3000 boards take some 190 MB.
 #[test]
 fn a_dropped_board_gives_its_live_pages_back() {
-    let open = || Board::open_sparse(8, 0).unwrap().into_live().unwrap();
+    let open = || Board::open_sparse(8, Ticket::new(0)).unwrap().into_live().unwrap();
     drop(open());
     let before = held();
     for _ in 0..3000 {
@@ -329,7 +334,7 @@ fn a_live_board_goes_to_other_threads() {
     let mut board = live();
     let page = board.message_page(VP) as usize;
     let used = thread::spawn(move || {
-        assert_eq!(act(&mut board, &post(&[1])), Reply::Accepted(0));
+        assert_eq!(act(&mut board, &post(&[1])), Reply::Accepted(Ticket::new(0)));
         vec![Box::new(board)]
     });
     let mut boards = used.join().unwrap();
@@ -393,7 +398,7 @@ impl Machine {
         for notice in self.board.notices() {
             match notice {
                 Notice::Consumed { ticket, .. } => {
-                    assert_eq!(ticket, self.consumed);
+                    assert_eq!(ticket, Ticket::new(self.consumed));
                     self.consumed += 1;
                 }
                 Notice::Expired { .. } => self.expired += 1,
@@ -453,7 +458,7 @@ fn a_running_guest_receives_each_message_once_and_in_order() {
             let post = post(&number.to_le_bytes());
             loop {
                 let reply = machine.lock().unwrap().perform(&post).reply;
-                if reply == Reply::Accepted(number) {
+                if reply == Reply::Accepted(Ticket::new(number)) {
                     break;
                 }
                 assert_eq!(reply, Reply::Refused(Refusal::NoBuffers));
@@ -462,7 +467,7 @@ fn a_running_guest_receives_each_message_once_and_in_order() {
         }
     });
     assert_eq!((machine.consumed, machine.board.board().queued(0, 2)), (MESSAGES, 0));
-    assert_eq!(machine.board.board().next_ticket(), MESSAGES);
+    assert_eq!(machine.board.board().next_ticket(), Ticket::new(MESSAGES));
 }
 
 /// A tick may owe the processor an EOM, if the guest empties the slot at the same time.

@@ -286,8 +286,7 @@ fn numbers_that_mean_no_event_change_nothing() {
         assert_eq!(handle.perform(&event), fault(SYNICBOARD_NO_EVENT));
     }
     // SAFETY: the handle has no copy.
-    let answers =
-        unsafe { [synicboard_assert(&mut handle.0, 0, 15), synicboard_send(&mut handle.0, 15, 1)] };
+    let answers = unsafe { [synicboard_assert(&mut handle.0, 0, 15), synicboard_send(&mut handle.0, 15, 1)] };
     assert_eq!(answers, [fault(SYNICBOARD_NO_EVENT); 2]);
 }
 

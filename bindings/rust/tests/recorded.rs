@@ -5,8 +5,8 @@ use std::error::Error;
 use std::thread;
 use synicboard::msr::{EOI, SCONTROL};
 use synicboard::{
-    check, Event, Line, Notice, NoticeRoom, OpenFault, Raised, Refusal, Reply, RecordedBoard, TimerId, Vector,
-    Verdict, Vp,
+    check, Event, Line, Notice, NoticeRoom, OpenFault, Raised, RecordedBoard, Refusal, Reply, Ticket,
+    TimerId, Vector, Verdict, Vp,
 };
 
 const VECTOR: Vector = Vector::new(0x60).unwrap();
@@ -15,14 +15,14 @@ const PART: u8 = 1;
 #[test]
 fn sizes_outside_the_limits_are_refused() {
     for (processors, pages) in [(0, 1), (9, 1), (1, 0), (1, 65)] {
-        assert_eq!(RecordedBoard::open(processors, pages, 0).err(), Some(OpenFault::BadSize));
+        assert_eq!(RecordedBoard::open(processors, pages, Ticket::new(0)).err(), Some(OpenFault::BadSize));
     }
-    assert_eq!(format!("{:?}", RecordedBoard::open(8, 64, 0).unwrap()), "RecordedBoard { .. }");
+    assert_eq!(format!("{:?}", RecordedBoard::open(8, 64, Ticket::new(0)).unwrap()), "RecordedBoard { .. }");
 }
 
 #[test]
 fn a_room_has_the_notices_of_the_last_event() -> Result<(), Box<dyn Error>> {
-    let board = RecordedBoard::open(1, 1, 0)?;
+    let board = RecordedBoard::open(1, 1, Ticket::new(0))?;
     let mut room = NoticeRoom::new();
     assert_eq!(room.notices().len(), 0);
     assert_eq!(board.act(0, &Event::Assert { vp: 0, vector: VECTOR }, &mut room)?, Reply::Done);
@@ -39,7 +39,7 @@ fn a_room_has_the_notices_of_the_last_event() -> Result<(), Box<dyn Error>> {
 
 #[test]
 fn the_first_timer_is_seen() -> Result<(), Box<dyn Error>> {
-    let board = RecordedBoard::open(1, 1, 0)?;
+    let board = RecordedBoard::open(1, 1, Ticket::new(0))?;
     let mut room = NoticeRoom::new();
     assert_eq!(board.earliest(), None);
     // Timer 2 of the processor is a one-shot in direct mode, with vector 60, due at 100.
@@ -57,7 +57,7 @@ fn the_trace_is_told_in_the_order_of_the_lock() -> Result<(), Box<dyn Error>> {
         0 absorb 1 1 100000000\n= done\n\
         0 absorb 2 1 0\n= refused 14\n\
         end 3 7\n";
-    let board = RecordedBoard::open(2, 4, 7)?;
+    let board = RecordedBoard::open(2, 4, Ticket::new(7))?;
     let mut line = Line::open(2)?;
     let mut room = NoticeRoom::new();
     let write = Event::Write { vp: 0, register: SCONTROL, value: 1 };
@@ -83,7 +83,7 @@ fn the_trace_is_told_in_the_order_of_the_lock() -> Result<(), Box<dyn Error>> {
 fn what_threads_did_is_legal_and_loses_nothing() -> Result<(), Box<dyn Error>> {
     const PROCESSORS: u8 = 3;
     const TURNS: u64 = 300;
-    let board = RecordedBoard::open(PROCESSORS, 1, 0)?;
+    let board = RecordedBoard::open(PROCESSORS, 1, Ticket::new(0))?;
     let mut of_device = Line::open(PROCESSORS)?;
     let mut lines = Vec::new();
     for _ in 0..PROCESSORS {

@@ -4,7 +4,7 @@ use std::error::Error;
 use std::sync::Mutex;
 use std::thread;
 use synicboard::msr::EOI;
-use synicboard::{Board, Reply, Vector};
+use synicboard::{Board, Reply, Ticket, Vector};
 
 const ROUNDS: u32 = 10_000;
 const PROCESSORS: u8 = 4;
@@ -24,10 +24,19 @@ fn run(board: &Mutex<Board>, vp: u8) -> u32 {
 
 #[test]
 fn threads_share_a_board_by_a_mutex() -> Result<(), Box<dyn Error>> {
-    for board in [Board::open(PROCESSORS, 1, 0)?, Board::open_sparse(PROCESSORS, 0)?] {
+    for board in
+        [Board::open(PROCESSORS, 1, Ticket::new(0))?, Board::open_sparse(PROCESSORS, Ticket::new(0))?]
+    {
         let board = Mutex::new(board);
         let taken: u32 = thread::scope(|scope| {
-            let threads: Vec<_> = (0..PROCESSORS).map(|vp| scope.spawn({ let board = &board; move || run(board, vp) })).collect();
+            let threads: Vec<_> = (0..PROCESSORS)
+                .map(|vp| {
+                    scope.spawn({
+                        let board = &board;
+                        move || run(board, vp)
+                    })
+                })
+                .collect();
             threads.into_iter().map(|thread| thread.join().unwrap()).sum()
         });
         assert_eq!(taken, ROUNDS * u32::from(PROCESSORS));

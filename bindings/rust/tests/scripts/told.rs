@@ -1,6 +1,6 @@
 //! The output of a replay, as in `docs/FORMATS.md`: replies, notices and summaries.
 
-use synicboard::{Board, Notice, Owner, Reply, Vector};
+use synicboard::{Board, Notice, Owner, Reply, Ticket, Vector};
 
 /// The line of a reply.
 pub fn reply(reply: Reply) -> String {
@@ -38,7 +38,7 @@ pub fn notice(notice: Notice) -> String {
     format!(". {word} {numbers}\n")
 }
 
-fn place(ticket: u64, vp: u8, sint: u8) -> String {
+fn place(ticket: Ticket, vp: u8, sint: u8) -> String {
     format!("{ticket} {vp} {sint}")
 }
 
