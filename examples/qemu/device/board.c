@@ -243,7 +243,8 @@ bool synic_restore_image(const uint8_t *image, size_t length, Error **errp)
     synicboard restored = SYNICBOARD_CLOSED;
     synicboard_end end = synicboard_restore(&restored, image, length);
     if (end.kind != SYNICBOARD_OK) {
-        error_setg(errp, "synicboard: %s (line %" PRIu64 " of the image)", synicboard_outcome_text(end.kind), end.line);
+        error_setg(errp, "synicboard: %s (line %" PRIu64 " of the image)", synicboard_outcome_text(end.kind),
+                   end.line);
         return false;
     }
     qemu_mutex_lock(&lock);
