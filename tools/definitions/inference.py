@@ -7,7 +7,7 @@ The result has no names of the file: ('var', x) ('num', digits) ('text', s) ('gi
 
 import library
 from syntax import Parser, Refused, parsed, words
-from unification import BOOL, NUMBER, PROPOSITION, con, fun, instantiated, meta, prune, unify
+from unification import BOOL, NUMBER, PROPOSITION, con, fun, instantiated, meta, prune, result_of, unify
 
 
 
@@ -93,7 +93,8 @@ class Inference:
 
     # patterns
 
-    def constructor(self, name):
+    def constructor(self, name, wanted=None):
+        """A constructor; of the wanted type, if constructors of several types have the name."""
         if name == "∷":
             key = ("given", "◌∷◌")
         else:
@@ -104,6 +105,10 @@ class Inference:
             if rest:
                 return None
         t = self.program.constructor(key)
+        for other in self.module.overloaded.get(name, ()):
+            if t and wanted and wanted[0] == "con" and result_of(t)[1] != wanted[1]:
+                key = self.program.resolve(*other)
+                t = self.program.constructor(key)
         return (key, t) if t else None
 
     def pattern(self, e, t, env):
@@ -124,7 +129,7 @@ class Inference:
             raise Refused(self.place + ": no pattern: " + str(e))
         if e[1] == "_":
             return ("wild",)
-        found = self.constructor(e[1])
+        found = self.constructor(e[1], t)
         if not found and not arguments:
             env[e[1]] = t
             return ("var", e[1])

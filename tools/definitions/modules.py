@@ -32,6 +32,7 @@ class Module:
     def __init__(self, name, path):
         self.name, self.path, self.comment = name, path, []
         self.uses = {}              # local name: (module, item)
+        self.overloaded = {}        # local name: the others that have it
         self.aliases = {}           # local name: module
         self.definitions = {}       # in the order of the file
         self.constructors = {}      # constructor: the definition of its data type
@@ -49,7 +50,10 @@ def use(module, line):
         for item in match[2].split(","):
             name, _, local = item.strip().partition(" as ")
             if name:
-                module.uses[(local or name).strip()] = (match[1], name.strip())
+                here = (local or name).strip()
+                if here in module.uses:
+                    module.overloaded.setdefault(here, []).append(module.uses[here])
+                module.uses[here] = (match[1], name.strip())
         return True
     match = USE_MODULE.match(line)
     if match:
