@@ -15,10 +15,10 @@ struct blocks { uint8_t *last[MOST]; unsigned count; unsigned first; uint8_t *co
 static _Thread_local struct blocks *seen;
 
 /* Pages of callers that boards use. */
-struct lent { struct lent *next; unsigned left; unsigned count; uint8_t *pages[]; };
+struct borrowed { struct borrowed *next; unsigned left; unsigned count; uint8_t *pages[]; };
 
-static struct lent *lents;
-static pthread_mutex_t lents_lock = PTHREAD_MUTEX_INITIALIZER;
+static struct borrowed *all_borrowed;
+static pthread_mutex_t borrowed_lock = PTHREAD_MUTEX_INITIALIZER;
 
 void *page_malloc(size_t size);
 void page_free(void *block);
@@ -37,40 +37,40 @@ void *page_malloc(size_t size)
 }
 
 /* The pages of the board that has a page, and the page's number there; null if no board has it. */
-static struct lent **find(const uint8_t *page, unsigned *number)
+static struct borrowed **find(const uint8_t *page, unsigned *number)
 {
-    for (struct lent **at = &lents; *at != NULL; at = &(*at)->next)
+    for (struct borrowed **at = &all_borrowed; *at != NULL; at = &(*at)->next)
         for (*number = 0; *number < (*at)->count; ++*number)
             if ((*at)->pages[*number] == page)
                 return at;
     return NULL;
 }
 
-/* Takes a page back that was lent, and forgets the pages of a board when none of them is lent. */
-static bool was_lent(const uint8_t *page)
+/* Whether a page of the host was borrowed. It is given back, and a board of which no page is left is forgotten. */
+static bool was_borrowed(const uint8_t *page)
 {
     unsigned number;
-    struct lent **at = find(page, &number);
+    struct borrowed **at = find(page, &number);
     if (at == NULL)
         return false;
-    struct lent *lent = *at;
-    lent->pages[number] = NULL;
-    if (--lent->left == 0) {
-        *at = lent->next;
-        free(lent);
+    struct borrowed *borrowed = *at;
+    borrowed->pages[number] = NULL;
+    if (--borrowed->left == 0) {
+        *at = borrowed->next;
+        free(borrowed);
     }
     return true;
 }
 
 void page_free(void *block)
 {
-    bool is_lent = false;
+    bool is_borrowed = false;
     if (block != NULL && (uintptr_t)block % PAGE == 0) {
-        pthread_mutex_lock(&lents_lock);
-        is_lent = was_lent(block);
-        pthread_mutex_unlock(&lents_lock);
+        pthread_mutex_lock(&borrowed_lock);
+        is_borrowed = was_borrowed(block);
+        pthread_mutex_unlock(&borrowed_lock);
     }
-    if (!is_lent)
+    if (!is_borrowed)
         free(block);
 }
 
@@ -121,36 +121,36 @@ static uint8_t count_before(unsigned count, unsigned *before)
     return answer;
 }
 
-/* Lends pages, which page_free does not free then, unless another board has one of them. */
-static uint8_t lend(uint8_t *const *pages, unsigned count)
+/* Borrows pages, which page_free does not free then, unless another board has one of them. */
+static uint8_t borrow(uint8_t *const *pages, unsigned count)
 {
-    struct lent *lent = malloc(sizeof *lent + count * sizeof *lent->pages);
-    if (lent == NULL)
+    struct borrowed *borrowed = malloc(sizeof *borrowed + count * sizeof *borrowed->pages);
+    if (borrowed == NULL)
         return SYNICBOARD_NO_MEMORY;
-    bool is_lent = false;
+    bool is_borrowed = false;
     unsigned found;
-    lent->left = lent->count = count;
-    pthread_mutex_lock(&lents_lock);
+    borrowed->left = borrowed->count = count;
+    pthread_mutex_lock(&borrowed_lock);
     for (unsigned number = 0; number < count; number++) {
-        lent->pages[number] = pages[number];
-        is_lent = is_lent || find(pages[number], &found) != NULL;
+        borrowed->pages[number] = pages[number];
+        is_borrowed = is_borrowed || find(pages[number], &found) != NULL;
     }
-    if (!is_lent) {
-        lent->next = lents;
-        lents = lent;
+    if (!is_borrowed) {
+        borrowed->next = all_borrowed;
+        all_borrowed = borrowed;
     }
-    pthread_mutex_unlock(&lents_lock);
-    if (is_lent)
-        free(lent);
-    return is_lent ? SYNICBOARD_BAD_PAGE : SYNICBOARD_OK;
+    pthread_mutex_unlock(&borrowed_lock);
+    if (is_borrowed)
+        free(borrowed);
+    return is_borrowed ? SYNICBOARD_BAD_PAGE : SYNICBOARD_OK;
 }
 
 static void take_back(uint8_t *const *pages, unsigned from, unsigned count)
 {
-    pthread_mutex_lock(&lents_lock);
+    pthread_mutex_lock(&borrowed_lock);
     for (unsigned number = from; number < count; number++)
-        was_lent(pages[number]);
-    pthread_mutex_unlock(&lents_lock);
+        was_borrowed(pages[number]);
+    pthread_mutex_unlock(&borrowed_lock);
 }
 
 /* Whether each is a page, and none is there twice. */
@@ -180,7 +180,7 @@ uint8_t synicboard_make_live_in(synicboard *board, uint8_t *const *pages)
     uint8_t answer = count_before(count, &blocks.first);
     if (answer != SYNICBOARD_OK)
         return answer;
-    if ((answer = lend(pages, count)) != SYNICBOARD_OK)
+    if ((answer = borrow(pages, count)) != SYNICBOARD_OK)
         return answer;
     answer = make_live(board, &blocks);
     unsigned used = blocks.count < blocks.first ? 0 : blocks.count - blocks.first;

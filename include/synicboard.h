@@ -184,7 +184,7 @@ enum synicboard_register {
  *
  * One call for each kind of event. Each performs the event on the board and returns the reply. It
  * allocates nothing. With SYNICBOARD_NOT_PERFORMED, SYNICBOARD_REFUSED or
- * SYNICBOARD_GENERAL_PROTECTION, the board is unchanged, but for the guest's stores that were found in live
+ * SYNICBOARD_GENERAL_PROTECTION, the board is unchanged, except for the guest's stores that were found in live
  * pages. If the handle is closed, the fault is SYNICBOARD_IS_CLOSED; each call names the arguments that yield
  * SYNICBOARD_NO_EVENT. All of them serve a board with live pages too (below).
  *
@@ -487,7 +487,7 @@ uint64_t synicboard_moment(const synicboard *board);
 /* The ticket that the next accepted message gets; 0 if the handle is closed. */
 uint64_t synicboard_next_ticket(const synicboard *board);
 
-/* A port, as it was opened: after a restore, a host finds its ports so. */
+/* How a port was opened: after a restore, a host finds its ports so. */
 typedef struct synicboard_port_state {
     uint8_t kind;                       /* SYNICBOARD_PORT_.. ; if it is closed, all is 0 */
     uint8_t vp;

@@ -45,7 +45,7 @@ static uint64_t end_bits(const synicboard *board, uint64_t assisted)
     return bits;
 }
 
-/* What an answer says of a board beside the reply. */
+/* What an answer says of a board, its reply left out. */
 static void check_state(const synicboard *board, const synicboard_answer *answer, uint64_t assisted)
 {
     synicboard_next_tick alarm = synicboard_alarm(board);

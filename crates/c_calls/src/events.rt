@@ -27,10 +27,10 @@ macro_rules! perform_on {
     ($handle:ident, $event:expr $(,)?) => {
         match $handle.board_mut() {
             Some(board) => match board {
-                AnyBoard::Plain(board) => perform_plain(board, &$event),
-                AnyBoard::Live(board) => perform_live(board, &$event),
+                AnyBoard::Plain(board) => return perform_plain(board, &$event),
+                AnyBoard::Live(board) => return perform_live(board, &$event),
             },
-            None => fault_to_c(Fault::Closed),
+            None => return fault_to_c(Fault::Closed),
         }
     };
 }
@@ -240,7 +240,7 @@ pub extern "C" fn synicboard_tick_due(
     ensures performed { IsPerformed (Some (event.Tick moment)) handle.old.board handle.new.board result }
     ensures due { due.new ≡ earliest_of handle.new.board }
 {
-    let reply = perform_on!(handle, Event::Tick { moment });
+    let reply = synicboard_tick(handle, moment);
     *due = earliest_on(handle);
     reply
 }

@@ -48,8 +48,8 @@ struct Stepped {
 }
 
 /// Moves the clock to `now`, if that is later than the present time, and performs an event, if `plain` encodes
-/// one. Copies the notices of both, in order, as many as fit. `assisted` has the processors whose guests have
-/// been told that no EOI is required.
+/// one. Copies the notices of both, in order, as many as fit. `assisted` has the processors in whose
+/// assist pages the host has set "No EOI required" (TLFS, "EOI Assist").
 #[unsafe(no_mangle)]
 pub extern "C" fn synicboard_step(
     handle: &mut BoardHandle,

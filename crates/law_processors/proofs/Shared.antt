@@ -383,15 +383,15 @@ places-register s p value (register.TimerCount n) never =
 
 module _ {X : Type 0} (f : State → X) (is : Register → Bool)
     (each : (s : State) (p value : ℕ) (r : Register) → is r ≡ false → LeavesIn f s (written_register s p r value))
-    where
-  by-register : (s : State) (p number value : ℕ) → option_map_or is (register_of number) false ≡ false
-      → LeavesIn f s (written s p number value)
-  by-register s p number value = by (register_of number)
-    where
-      by : (o : Option Register) → option_map_or is o false ≡ false
-          → LeavesIn f s (option_map_or (λ r. written_register s p r value) o (unchanged s replies.GeneralProtection))
-      by None never = refl
-      by (Some r) never = each s p value r never
+  where
+    by-register : (s : State) (p number value : ℕ) → option_map_or is (register_of number) false ≡ false
+        → LeavesIn f s (written s p number value)
+    by-register s p number value = by (register_of number)
+      where
+        by : (o : Option Register) → option_map_or is o false ≡ false
+            → LeavesIn f s (option_map_or (λ r. written_register s p r value) o (unchanged s replies.GeneralProtection))
+        by None never = refl
+        by (Some r) never = each s p value r never
 
 near-written : (s : State) (p number value : ℕ) → LeavesIn few_of s (written s p number value)
 near-written s p number value = by (register_of number)
