@@ -77,7 +77,7 @@ enum synicboard_outcome {
     SYNICBOARD_NO_LINE = 7,             /* the handle of the line is closed, and that of the board is not */
     SYNICBOARD_NO_EVENT = 8,            /* a vector below 16, too many bytes, or an unknown kind */
     SYNICBOARD_NO_ROOM = 9,             /* one more reply, or SYNICBOARD_MOST_NOTICES more notices, might not fit */
-    SYNICBOARD_WRONG_LINE = 10,         /* `line` is the first wrong line, counted from 1 */
+    SYNICBOARD_WRONG_LINE = 10,         /* a line of the text is wrong; `line` is the first, from 1 */
     SYNICBOARD_TOO_LONG = 11,           /* more than 1,073,741,824 bytes, and no line of these is wrong */
     SYNICBOARD_NO_TEXT = 12,            /* the text is null, and its length is not 0 */
     SYNICBOARD_NOT_RECORDED = 13,       /* the shared board has no history */

@@ -1,6 +1,6 @@
 /* One lock for a board of 64 processors with live pages, and a lock for each processor: threads assert, take and end an
  * interrupt of their own processor by synicboard_step, with some work of the guest's between. A board of one processor
- * for each thread stands for what a split lock could reach at best, since it shares nothing.
+ * for each thread is the best that a split lock could reach, since it shares nothing.
  *
  *   cc -O2 -Iinclude bench/c/locks.c build/libsynicboard.a -pthread -o locks
  *   ./locks [MILLISECONDS]

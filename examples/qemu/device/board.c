@@ -242,10 +242,12 @@ bool synic_restore_image(const uint8_t *image, size_t length, Error **errp)
 {
     synicboard restored = SYNICBOARD_CLOSED;
     synicboard_end end = synicboard_restore(&restored, image, length);
-    if (end.kind != SYNICBOARD_OK) {
-        error_setg(errp, "synicboard: %s (line %" PRIu64 " of the image)", synicboard_outcome_text(end.kind), end.line);
+    if (end.kind == SYNICBOARD_WRONG_LINE)
+        error_setg(errp, "synicboard: line %" PRIu64 " of the image is wrong", end.line);
+    else if (end.kind != SYNICBOARD_OK)
+        error_setg(errp, "synicboard: the image is not restored: %s", synicboard_outcome_text(end.kind));
+    if (end.kind != SYNICBOARD_OK)
         return false;
-    }
     qemu_mutex_lock(&lock);
     synicboard_close(&board);
     board = restored;

@@ -153,10 +153,14 @@ static int post_load(void *opaque, int version)
     SynicBus *bus = opaque;
     size_t length;
     void *state = vmbus_state(bus->bus, &length);
-    if (bus->length != length)
-        return -EINVAL;
-    memcpy(state, bus->saved, length);
-    return vmbus_is_sound(bus->bus) ? 0 : -EINVAL;
+    bool is_sound = bus->length == length;
+    if (is_sound) {
+        memcpy(state, bus->saved, length);
+        is_sound = vmbus_is_sound(bus->bus);
+    }
+    if (!is_sound)
+        error_report("%s: what was saved is no state of VMBus", TYPE_SYNIC_BUS);
+    return is_sound ? 0 : -EINVAL;
 }
 
 static const VMStateDescription description = {

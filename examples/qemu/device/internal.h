@@ -23,7 +23,6 @@ struct synic {
     bool is_open, is_ready;             /* it is ready when its overlays have their pages */
     struct partition_offer offer;
     struct partition partition;
-    X86CPU *first;                      /* of its properties: all processors have the same */
 };
 extern struct synic synic;
 
@@ -35,7 +34,8 @@ void synic_tick(void);                  /* if a timer is due */
 void synic_settle(void);                /* does what events asked for; takes the BQL if there is anything */
 bool synic_is_auto(uint8_t vp, uint8_t vector);
 enum { SYNIC_WATCHES = 64 };
-synicboard_reply synic_post_watched(const synicboard_event *event, unsigned watch);     /* synic_routes_placed is called when it is placed */
+/* Posts a message; when it is placed, synic_routes_placed is called. */
+synicboard_reply synic_post_watched(const synicboard_event *event, unsigned watch);
 void synic_list_overlays(uint64_t pages[2 * PARTITION_VPS]);        /* the address of each overlay, or SYNIC_NEVER */
 uint8_t *synic_live_page(unsigned number);      /* 2 * vp for messages, 2 * vp + 1 for flags */
 uint8_t *synic_save_image(size_t *length);
@@ -60,7 +60,8 @@ bool synic_apic_write(X86CPU *cpu, uint32_t msr, uint64_t value);
 /* overlay.c. Under the BQL. */
 void synic_make_regions(void);
 void synic_map_overlays(void);
-void synic_move_overlay(X86CPU *cpu, uint32_t msr, uint64_t value);     /* a write of SIMP or SIEFP, while no processor runs; without the BQL */
+/* A write of SIMP or SIEFP, while no processor runs. Without the BQL. */
+void synic_move_overlay(X86CPU *cpu, uint32_t msr, uint64_t value);
 
 uint8_t *synic_find_page(uint64_t number, bool is_stored);     /* of the guest's memory; null if it is none */
 

@@ -46,8 +46,9 @@ void synic_log_eoms(uint64_t eoms)
 void synic_log_notice(uint64_t time, const synicboard_notice *notice)
 {
     if (notices != NULL)
-        fprintf(notices, "%" PRIu64 " %s %u %u %u %u %u %" PRIu64 " %" PRIu64 " %" PRIu64 "\n", time, synicboard_notice_text(notice->kind),
-                notice->vp, notice->sint, notice->vector, notice->timer, notice->flag, notice->ticket, notice->due, notice->count);
+        fprintf(notices, "%" PRIu64 " %s %u %u %u %u %u %" PRIu64 " %" PRIu64 " %" PRIu64 "\n", time,
+                synicboard_notice_text(notice->kind), notice->vp, notice->sint, notice->vector, notice->timer, notice->flag,
+                notice->ticket, notice->due, notice->count);
 }
 
 void synic_log_end(const synicboard *board)

@@ -78,7 +78,8 @@ bool synic_make_offer(X86CPU *cpu, struct partition_offer *offer, Error **errp)
     if (offer->features == 0)
         return true;
     if (vps > PARTITION_VPS || cpu->apic_id > 0xfe) {
-        error_setg(errp, "the emulator offers the properties hv-* for at most %u processors, with APIC IDs below 255", PARTITION_VPS);
+        error_setg(errp, "the emulator offers the properties hv-* for at most %u processors, with APIC IDs below 255",
+                   PARTITION_VPS);
         return false;
     }
     offer->vps = vps;

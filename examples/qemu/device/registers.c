@@ -25,7 +25,6 @@ bool synic_realize(X86CPU *cpu, Error **errp)
     if (offer.features == 0 || synic.is_open)
         return true;
     synic.offer = offer;
-    synic.first = cpu;
     synic_open_board();
     synic_open_timer();
     synic_open_calls();

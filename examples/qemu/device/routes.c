@@ -156,7 +156,8 @@ int synic_route_signal(HvSintRoute *opaque, unsigned flag)
 int synic_route_raise(HvSintRoute *opaque)
 {
     SynicRoute *route = (SynicRoute *)opaque;
-    uint64_t sint = perform((synicboard_event){ .kind = SYNICBOARD_READ, .vp = route->vp, .msr = SYNICBOARD_MSR_SINT0 + route->sint }).value;
+    uint64_t sint = perform((synicboard_event){ .kind = SYNICBOARD_READ, .vp = route->vp,
+                                                .msr = SYNICBOARD_MSR_SINT0 + route->sint }).value;
     bool is_masked = (sint >> 16 & 1) != 0, is_polling = (sint >> 18 & 1) != 0;
     if (!is_masked && !is_polling)
         synic_deliver(route->vp, sint & 0xff);
