@@ -14,10 +14,7 @@ struct Answer {
 }
 
 fn unsupported() -> Answer {
-    Answer {
-        reply: "unsupported".into(),
-        notices: Vec::new(),
-    }
+    Answer { reply: "unsupported".into(), notices: Vec::new() }
 }
 
 /// An implementation of the events. Numbers that it cannot have are its own to refuse.
@@ -33,14 +30,7 @@ trait Peer: Sized {
         unsupported()
     }
 
-    fn open_event_port(
-        &mut self,
-        _port: u8,
-        _vp: u8,
-        _sint: u8,
-        _base: u16,
-        _count: u16,
-    ) -> Answer {
+    fn open_event_port(&mut self, _port: u8, _vp: u8, _sint: u8, _base: u16, _count: u16) -> Answer {
         unsupported()
     }
 
@@ -118,9 +108,7 @@ fn bytes(word: &str) -> Option<Vec<u8>> {
     if word == "-" {
         return Some(Vec::new());
     }
-    (0..word.len() / 2)
-        .map(|at| hexadecimal(word.get(2 * at..2 * at + 2)?))
-        .collect()
+    (0..word.len() / 2).map(|at| hexadecimal(word.get(2 * at..2 * at + 2)?)).collect()
 }
 
 fn host_event<P: Peer>(peer: &mut P, words: &[&str]) -> Option<Answer> {
@@ -133,13 +121,7 @@ fn host_event<P: Peer>(peer: &mut P, words: &[&str]) -> Option<Answer> {
         ),
         ["open", port, "event", vp, sint, base, count] => {
             let (base, count) = (base.parse().ok()?, count.parse().ok()?);
-            peer.open_event_port(
-                port.parse().ok()?,
-                vp.parse().ok()?,
-                sint.parse().ok()?,
-                base,
-                count,
-            )
+            peer.open_event_port(port.parse().ok()?, vp.parse().ok()?, sint.parse().ok()?, base, count)
         }
         ["close", port] => peer.close_port(port.parse().ok()?),
         ["post", port, kind, payload] => {
@@ -161,9 +143,7 @@ fn host_event<P: Peer>(peer: &mut P, words: &[&str]) -> Option<Answer> {
 
 fn guest_event<P: Peer>(peer: &mut P, words: &[&str]) -> Option<Answer> {
     Some(match *words {
-        ["write", vp, msr, value] => {
-            peer.write_msr(vp.parse().ok()?, hexadecimal(msr)?, hexadecimal(value)?)
-        }
+        ["write", vp, msr, value] => peer.write_msr(vp.parse().ok()?, hexadecimal(msr)?, hexadecimal(value)?),
         ["read", vp, msr] => peer.read_msr(vp.parse().ok()?, hexadecimal(msr)?),
         ["store", address, stored] => peer.guest_store(hexadecimal(address)?, &bytes(stored)?),
         ["load", address, length] => peer.guest_load(hexadecimal(address)?, length.parse().ok()?),
@@ -194,15 +174,10 @@ fn perform<P: Peer>(peer: &mut Option<P>, line: &str, output: &mut impl Write) -
     if line == "sync" {
         return writeln!(output, "= sync");
     }
-    let answer = peer
-        .as_mut()
-        .and_then(|peer| guest_event(peer, &words).or_else(|| host_event(peer, &words)));
+    let answer =
+        peer.as_mut().and_then(|peer| guest_event(peer, &words).or_else(|| host_event(peer, &words)));
     let answer = answer.unwrap_or_else(unsupported);
-    let lines = answer
-        .notices
-        .iter()
-        .map(|notice| format!(". {notice}\n"))
-        .collect::<String>();
+    let lines = answer.notices.iter().map(|notice| format!(". {notice}\n")).collect::<String>();
     write!(output, "= {}\n{lines}", answer.reply)
 }
 
@@ -263,14 +238,12 @@ fn notice_text(notice: Notice) -> String {
         }
         Notice::Expired { vp, index, due } => format!("expired {} {index} {due}", vp.number()),
         Notice::Skipped { vp, index, count } => format!("skipped {} {index} {count}", vp.number()),
+        other => format!("unknown {other:?}"),
     }
 }
 
 fn told(board: &Board, reply: Reply) -> Answer {
-    Answer {
-        reply: reply_text(reply),
-        notices: board.notices().map(notice_text).collect(),
-    }
+    Answer { reply: reply_text(reply), notices: board.notices().map(notice_text).collect() }
 }
 
 impl Peer for Board {

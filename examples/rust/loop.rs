@@ -74,9 +74,7 @@ fn post_messages(host: &Host) {
 fn do_work(host: &Host, mut line: Line) {
     for _ in 0..WORK {
         host.work.fetch_add(1, Ordering::SeqCst);
-        let raised = line
-            .raise(0, WORK_VECTOR)
-            .expect("the words are for processor 0");
+        let raised = line.raise(0, WORK_VECTOR).expect("the words are for processor 0");
         if raised == Raised::Fresh {
             // Processor 0 absorbs and goes to sleep in one critical section, so it cannot miss this
             // kick.
@@ -158,33 +156,17 @@ fn main() {
     set_up(&mut board);
     // One line for each thread that raises or absorbs.
     let mut first = Line::open(2).expect("memory for a line");
-    let (second, third) = (
-        first.split().expect("a second line"),
-        first.split().expect("a third line"),
-    );
-    let host = Host {
-        board: Mutex::new(board),
-        kick: Condvar::new(),
-        work: AtomicU64::new(0),
-    };
+    let (second, third) = (first.split().expect("a second line"), first.split().expect("a third line"));
+    let host = Host { board: Mutex::new(board), kick: Condvar::new(), work: AtomicU64::new(0) };
     let (zero, one) = thread::scope(|scope| {
         let zero = scope.spawn(|| processor(&host, 0, first));
         let one = scope.spawn(|| processor(&host, 1, second));
         scope.spawn(|| do_work(&host, third));
         post_messages(&host);
-        (
-            zero.join().expect("processor 0"),
-            one.join().expect("processor 1"),
-        )
+        (zero.join().expect("processor 0"), one.join().expect("processor 1"))
     });
-    println!(
-        "processor 0: {} interrupts of its timer, {} pieces of work",
-        zero.expiries, zero.work
-    );
-    println!(
-        "processor 1: {} messages, their sum is {}",
-        one.messages, one.sum
-    );
+    println!("processor 0: {} interrupts of its timer, {} pieces of work", zero.expiries, zero.work);
+    println!("processor 1: {} messages, their sum is {}", one.messages, one.sum);
     let board = host.board.into_inner().unwrap();
     let (ticket, moment) = (board.next_ticket(), board.moment());
     println!("board: the next ticket is {ticket}, the moment {moment}");

@@ -21,11 +21,7 @@ fn absorb(board: &RecordedBoard, line: &mut Line, vp: u8) -> Result<u64, NoEntry
 /// The loop of a processor's thread, the actor of its own number. Returns how many vectors it
 /// absorbed.
 fn run_processor(board: &RecordedBoard, line: &mut Line, vp: u8) -> Result<u64, NoEntry> {
-    let end = Event::Write {
-        vp,
-        register: EOI,
-        value: 0,
-    };
+    let end = Event::Write { vp, register: EOI, value: 0 };
     let mut room = NoticeRoom::new();
     let mut absorbed = 0;
     for _ in 0..TURNS {
@@ -44,9 +40,7 @@ fn run_device(line: &mut Line) -> u64 {
         let vector = Vector::new(64 * PART + bit).expect("a vector of the part");
         line.raise((turn % usize::from(PROCESSORS)) as u8, vector)
     });
-    raises
-        .filter(|raised| *raised == Some(Raised::Fresh))
-        .count() as u64
+    raises.filter(|raised| *raised == Some(Raised::Fresh)).count() as u64
 }
 
 fn main() -> Result<(), Box<dyn Error>> {
@@ -61,9 +55,7 @@ fn main() -> Result<(), Box<dyn Error>> {
             .map(|(line, vp)| scope.spawn(move || run_processor(board, line, vp)))
             .collect();
         let fresh = run_device(&mut device_line);
-        let absorbed = threads
-            .into_iter()
-            .map(|thread| thread.join().expect("no thread panics"));
+        let absorbed = threads.into_iter().map(|thread| thread.join().expect("no thread panics"));
         (fresh, absorbed.sum::<Result<u64, NoEntry>>())
     });
     let mut absorbed = in_turns?;

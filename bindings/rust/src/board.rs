@@ -15,6 +15,7 @@ pub const PAGE_BYTES: usize = 4096;
 
 /// Why a board or a line was not opened.
 #[derive(Clone, Copy, PartialEq, Eq, Hash, Debug)]
+#[non_exhaustive]
 pub enum OpenFault {
     /// Not 1 to 8 processors, or not 1 to 64 pages; on a sparse board, not 1 to 64 processors.
     BadSize,
@@ -47,6 +48,7 @@ impl Error for OpenFault {}
 
 /// Why no board was restored from an image.
 #[derive(Clone, Copy, PartialEq, Eq, Hash, Debug)]
+#[non_exhaustive]
 pub enum RestoreFault {
     /// The text is no image; this line is the first wrong one, counted from 1.
     WrongLine(u64),

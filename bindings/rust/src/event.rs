@@ -11,6 +11,7 @@ use core::ops::Deref;
 #[derive(Clone, Copy, PartialEq, Eq, Debug)]
 // A payload is stored in its event, so an event needs no allocation.
 #[allow(clippy::large_enum_variant)]
+#[non_exhaustive]
 pub enum Event {
     /// Opens a port to a source of a processor.
     OpenPort {

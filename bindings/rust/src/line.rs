@@ -6,6 +6,7 @@ use core::fmt;
 
 /// Why no line was split off.
 #[derive(Clone, Copy, PartialEq, Eq, Hash, Debug)]
+#[non_exhaustive]
 pub enum SplitFault {
     /// The line has none left: 319 were split off it, or it was itself split off.
     NoMore,

@@ -14,6 +14,7 @@ pub const MOST_NOTICES: usize = sys::SYNICBOARD_MOST_NOTICES;
 
 /// Something that an event did, in addition to its reply.
 #[derive(Clone, Copy, PartialEq, Eq, Hash, Debug)]
+#[non_exhaustive]
 pub enum Notice {
     /// A message was appended to its queue.
     Accepted {

@@ -198,6 +198,7 @@ fn first(bytes: &[u8; 8], length: u8) -> Option<Bytes8> {
 
 /// Why an event was not performed. Nothing changed.
 #[derive(Clone, Copy, PartialEq, Eq, Hash, Debug)]
+#[non_exhaustive]
 pub enum EventFault {
     /// The access raises #GP.
     GeneralProtection,
@@ -229,6 +230,7 @@ impl Error for EventFault {
 /// Why an event was refused. A refused event changes nothing and emits no notice.
 #[derive(Clone, Copy, PartialEq, Eq, PartialOrd, Ord, Hash, Debug)]
 #[repr(u8)]
+#[non_exhaustive]
 pub enum Refusal {
     /// The port is not open; to open one, the board has none of its number.
     UnknownPort = sys::SYNICBOARD_UNKNOWN_PORT,

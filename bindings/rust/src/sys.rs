@@ -572,7 +572,7 @@ pub struct synicboard_settled {
     pub length: usize,
 }
 
-extern "C" {
+unsafe extern "C" {
     /// The version of the library that runs: 10000 * major + 100 * minor + patch.
     pub fn synicboard_version() -> u32;
     /// What an outcome means, in words; null if it is none.

@@ -104,6 +104,7 @@ pub fn check(trace: &[u8]) -> Verdict {
 
 /// Why no entry was written. The buffer is unchanged.
 #[derive(Clone, Copy, PartialEq, Eq, Debug)]
+#[non_exhaustive]
 pub enum FormatFault {
     /// The reply is [`Reply::NoEvent`], so nothing was performed.
     NoEvent,

@@ -64,7 +64,7 @@ fn open(line: &[u8]) -> Result<Board, &'static str> {
     let (processors, pages, first_ticket) = lines::opening(line).ok_or("first")?;
     Board::open(processors, pages, first_ticket).map_err(|fault| match fault {
         OpenFault::BadSize => "size",
-        OpenFault::Memory => panic!("{fault}"),
+        other => panic!("{other}"),
     })
 }
 

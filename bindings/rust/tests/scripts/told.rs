@@ -34,6 +34,7 @@ pub fn notice(notice: Notice) -> String {
         Notice::Withdrawn { ticket, vp, sint } => ("withdrawn", place(ticket, vp.number(), sint.number())),
         Notice::Expired { vp, index, due } => ("expired", format!("{} {index} {due}", vp.number())),
         Notice::Skipped { vp, index, count } => ("skipped", format!("{} {index} {count}", vp.number())),
+        other => panic!("{other:?}"),
     };
     format!(". {word} {numbers}\n")
 }
