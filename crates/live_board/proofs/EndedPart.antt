@@ -25,7 +25,8 @@ use Rattle.live_board.specs.inside.Parts.{IsShadow, IsStep, IsPart, IsLeft, IsPr
 use Rattle.live_board.proofs.Ended.{ended}
 use Rattle.live_board.proofs.Filled.{stores-show}
 use Rattle.live_board.proofs.Joined.{explained-append, careful-append, within-append, stores-within}
-use Rattle.live_board.proofs.Part.{run-then, type-is, type-marked, not-watched, header-bytes}
+use Rattle.live_board.proofs.Watched.{unwatched}
+use Rattle.live_board.proofs.Part.{run-then, type-is, type-marked, header-bytes}
 use Rattle.live_board.proofs.Probed.{rest-waiting}
 use Rattle.live_board.proofs.Staying.{stays}
 
@@ -153,7 +154,7 @@ pub part-ended-hidden : (s now : State) (p : ℕ) (log log-now : List Access) (w
     → IsStep s event now reply before after → Ends s p now → IsPublished now p false words 16 log log-now
     → IsPart s p Sim log event now log-now reply after
 part-ended-hidden s now p log log-now words event reply before after empty hidden one e pub-now =
-    joined s s now p log log log-now pub-now.news event reply [] after (not-watched s p log)
+    joined s s now p log log log-now pub-now.news event reply [] after (unwatched s p Sim log [] refl)
     (subst (λ ns. IsStep s event now reply ns after) empty one)
     (stores-show s p Sim pub-now.news _ pub-now.stores) (stores-within pub-now.news pub-now.stores)
     (λ shown. absurd (hidden shown)) pub-now.page

@@ -26,6 +26,7 @@ use Rattle.live_pages.specs.Words.{known, type_of, is_pending}
 use Rattle.live_pages.specs.declared.access.Access.{Access}
 use Rattle.live_pages.specs.declared.access.Access.TheVariants.{Load}
 use Rattle.live_pages.proofs.Bits.{or-set}
+use Rattle.live_board.proofs.Watched.{unwatched}
 use Rattle.live_board.specs.Words.{word_at, word_of}
 use Rattle.live_board.specs.Live.{explained, all_done, AreCareful, IsShown, HasLooked}
 use Rattle.live_board.specs.inside.Parts.{IsShadow, IsWatched, IsFound, IsStep, IsInto, IsPart, IsLooks, IsViewed, Attempts, is_attempted}
@@ -246,39 +247,11 @@ part-filled s mid now number kind port log log-mid log-now left event reply firs
         into.filled.others x ne ∙ known-others x low (λ e. ne (omega (arith, e)))
         ∙ sym (m.others (2 * p) x low (inr ne))
 
--- no looks
-pub not-watched : (s : State) (p : ℕ) (log : List Access) → IsWatched s p Sim log s log []
-unfolding run_of
-not-watched s p log =
-    record {
-      news = [];
-      page = refl;
-      run = refl;
-      careful = tt;
-      within = tt;
-      hidden = λ _. refl;
-      rest = refl;
-      count = refl;
-      others = λ j w _ _. refl;
-      same = λ j _. refl;
-    }
-
 pub no-looks : (s : State) (p : ℕ) (log : List Access) (notices : List Notice) → notices ≡ [] → IsShadow s (2 * p) log
     → IsLooks s p log s log notices 0
-unfolding run_of
+unfolding unwatched
 no-looks s p log notices none shadow = record {
-  watched = record {
-    news = [];
-    page = refl;
-    run = ap (λ (ns : List Notice). (s, [], ns)) (sym none);
-    careful = tt;
-    within = tt;
-    hidden = λ _. refl;
-    rest = refl;
-    count = refl;
-    others = λ j w _ _. refl;
-    same = λ j _. refl;
-  };
+  watched = unwatched s p Sim log notices none;
   shadow = shadow;
   few = omega (arith, ap length none);
   looks = refl;

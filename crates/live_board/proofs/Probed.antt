@@ -6,10 +6,10 @@ use Rattle.std.proofs.lemmas.List.{get_or-set_same, get_or-set_other}
 use Rattle.board_terms.specs.declared.notices.Notice.{Notice}
 use Rattle.board_terms.specs.declared.pages.Kind.TheVariants.{Sim}
 use Rattle.synic_board.specs.State.{State}
-use Rattle.synic_board.specs.Run.{run_of}
 use Rattle.live_pages.specs.Words.{known, type_of, is_pending}
 use Rattle.live_pages.specs.declared.access.Access.{Access}
 use Rattle.live_pages.proofs.Bits.{or-set}
+use Rattle.live_board.proofs.Watched.{unwatched}
 use Rattle.live_board.specs.Words.{word_of}
 use Rattle.live_board.specs.Live.{is_waiting, ProbesIf, AreProbes}
 use Rattle.live_board.specs.inside.Parts.{IsShadow, IsLook, IsMark, IsLeft, IsProbed, IsProbing}
@@ -60,20 +60,9 @@ probed-two s mid now p i log log-mid log-now first found before between after lo
 pub probing-start : (s : State) (p : ℕ) (log : List Access) (words : List ℕ) (notices : List Notice) → notices ≡ []
     → IsShadow s (2 * p) log → length words ≡ 512 → ((x : ℕ) → x < 512 → get_or words x 0 ≡ word_of s (2 * p) x)
     → IsProbing s p log s log words notices 0
-unfolding run_of
+unfolding unwatched
 probing-start s p log words notices none shadow count are = record {
-  watched = record {
-    news = [];
-    page = refl;
-    run = ap (λ (ns : List Notice). (s, [], ns)) (sym none);
-    careful = tt;
-    within = tt;
-    hidden = λ _. refl;
-    rest = refl;
-    count = refl;
-    others = λ j w _ _. refl;
-    same = λ j _. refl;
-  };
+  watched = unwatched s p Sim log notices none;
   probes = refl;
   few = omega (arith, ap length none);
   count = count;

@@ -15,28 +15,11 @@ use Rattle.live_pages.specs.declared.access.Access.{Access}
 use Rattle.live_board.specs.Live.{LiveModel, Shadows, IsShown, explained, all_done}
 use Rattle.live_board.specs.Refreshing.{AreLoads, IsRefreshed}
 use Rattle.live_board.specs.Words.{word_of}
-use Rattle.live_board.specs.inside.Parts.{IsShadow, IsPassed, IsWatched, IsLook, IsLoads, IsLoaded, found_stores}
+use Rattle.live_board.specs.inside.Parts.{IsShadow, IsPassed, IsLook, IsLoads, IsLoaded, found_stores}
 use Rattle.live_board.proofs.Passed.{no-notices}
-use Rattle.live_board.proofs.Watched.{look-shows}
+use Rattle.live_board.proofs.Watched.{look-shows, unwatched}
 use Rattle.live_board.proofs.Joined.{joined, run-append, done-append, same-explained, rest-number, rest-shown, shown-before, watched-then}
 use Rattle.live_board.proofs.Shadowed.{live, page-shadows}
-
--- nothing is loaded
-unfoldable pub unwatched : (s : State) (p : ℕ) (k : Kind) (log : List Access) → IsWatched s p k log s log []
-unfolding run_of
-unwatched s p k log =
-    record {
-      news = [];
-      page = refl;
-      run = refl;
-      careful = tt;
-      within = tt;
-      hidden = λ _. refl;
-      rest = refl;
-      count = refl;
-      others = λ j w _ _. refl;
-      same = λ j _. refl;
-    }
 
 pub loads-start : (s : State) (p : ℕ) (k : Kind) (log : List Access) (notices : List Notice)
     → IsShadow s (overlay_of p k) log → IsLoads s p k log s log notices notices 0
@@ -46,7 +29,7 @@ loads-start s p k log notices shadow =
       emitted = [];
       notices = sym (append-nil notices);
       few = omega arith;
-      watched = unwatched s p k log;
+      watched = unwatched s p k log [] refl;
       shadow = shadow;
       loads = refl;
     }
@@ -107,7 +90,7 @@ loaded-hidden s p k log notices hidden shadow = record {
   emitted = [];
   notices = sym (append-nil notices);
   few = omega arith;
-  watched = unwatched s p k log;
+  watched = unwatched s p k log [] refl;
   shadow = shadow;
   are = record { shown = λ shown. absurd (hidden shown); hidden = λ _. refl };
 }

@@ -24,6 +24,7 @@ use Rattle.synic_board.proofs.keeping.Wholes.{kept_from_sound}
 use Rattle.live_pages.specs.Words.{known}
 use Rattle.live_pages.specs.declared.access.Access.{Access}
 use Rattle.live_board.specs.Words.{word_at, word_of}
+use Rattle.live_board.proofs.Watched.{unwatched}
 use Rattle.live_board.specs.Live.{number_at, explained, explained_after, all_done, AreCareful, IsShown, AreLooks, AreTimed, looked_from, marked_from, has_processor, finds_empty, ArePlaced}
 use Rattle.live_board.specs.inside.Parts.{IsShadow, IsStep, IsWatched, IsFirst, IsFinished, IsTick, AreDirectAt, IsTickFrom, SlotGrows, SlotFills, WordsGrow, AreKept}
 use Rattle.live_board.proofs.DirectTicks.{own-tick, rest-due, rest-back}
@@ -195,23 +196,12 @@ begins-first s now p event log log-now before after posted first = record {
 
 begins-none : (s : State) (p : ℕ) (event : Event) (log : List Access) (before : List Notice) → AreDirectAt s p event
     → Begins s p event log s log before before
-unfolding run_of
+unfolding unwatched
 begins-none s p event log before direct = record {
   emitted = [];
   notices = sym (append-nil before);
   few = omega arith;
-  watched = record {
-    news = [];
-    page = refl;
-    run = refl;
-    careful = tt;
-    within = tt;
-    hidden = λ _. refl;
-    rest = refl;
-    count = refl;
-    others = λ j x low ne. refl;
-    same = λ j ne. refl;
-  };
+  watched = unwatched s p Sim log [] refl;
   shown = λ posted. absurd (posted direct);
   hidden = λ _. refl;
   none = λ _. refl;

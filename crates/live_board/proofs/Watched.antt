@@ -23,6 +23,24 @@ same x h e = grind (arith, nat_tests)
 apart : (x h : ℕ) → x ≢ h → (x == h) ≡ false
 apart x h e = grind (arith, nat_tests)
 
+-- no access
+unfoldable pub unwatched : (s : State) (p : ℕ) (k : Kind) (log : List Access) (notices : List Notice) → notices ≡ []
+    → IsWatched s p k log s log notices
+unfolding run_of
+unwatched s p k log notices none =
+    record {
+      news = [];
+      page = refl;
+      run = ap (λ (ns : List Notice). (s, [], ns)) (sym none);
+      careful = tt;
+      within = tt;
+      hidden = λ _. refl;
+      rest = refl;
+      count = refl;
+      others = λ j w _ _. refl;
+      same = λ j _. refl;
+    }
+
 -- a look shows what is passed
 pub look-shows : (s : State) (p : ℕ) (k : Kind) (w found : ℕ) (log : List Access)
     → known log w ≡ word_of s (overlay_of p k) w → explained s p k (Load w found ∷ []) log ≡ found_stores s p k w found

@@ -1,6 +1,8 @@
 use Rattle.std.proofs.Common.{refl, []}
 use Rattle.synic_board.specs.State.{State}
-use Rattle.live_board.proofs.Part.{made, part-filled, not-watched, header-bytes}
+use Rattle.live_board.proofs.Part.{made, part-filled, header-bytes}
+use Rattle.live_board.proofs.Watched.{unwatched}
+use Rattle.board_terms.specs.declared.pages.Kind.TheVariants.{Sim}
 use Rattle.live_board.proofs.Placed.{placed-filled}
 use Rattle.live_board.proofs.posting.post_hidden.Goals as goal
 
@@ -14,7 +16,7 @@ returns-clause-part c =
     let m = made s _ _ _ _ _ _ c.args.port.now into.step.step c.requires.open c.facts.ensures.sound c.requires.fits
     bytes in
     part-filled s s _ c.args.number c.args.kind c.args.port.now _ _ _ _ _ _ _ _ _ reached.1
-    (not-watched s c.args.port.now.vp c.args.page.now.log) c.requires.empty
+    (unwatched s c.args.port.now.vp Sim c.args.page.now.log [] refl) c.requires.empty
     (λ x low _. c.requires.shadow x low) into m (λ shown. absurd (c.requires.hidden shown))
 
 pub returns-clause-placed : goal.returns-clause-placed
