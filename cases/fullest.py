@@ -33,6 +33,11 @@ def first_ticket(processors, pages):
     return MOST - ports(processors, pages) * BUFFERS - processors * (4 + SOURCES)
 
 
+def first_queued(processors, pages):
+    """The ticket after those in the slots, which are before all that are queued."""
+    return first_ticket(processors, pages) + processors * SOURCES
+
+
 def target(port, processors):
     """The processor and the source of a port: the processors whose numbers are widest share the ports."""
     widest = [vp for vp in range(processors) if len(str(vp)) == len(str(processors - 1))]
@@ -55,7 +60,7 @@ def queued(vp, sint, tickets, processors, pages):
 
 
 def lines(processors, pages):
-    tickets = iter(range(first_ticket(processors, pages), MOST))
+    tickets = iter(range(first_queued(processors, pages), MOST))
     yield "image 1"
     yield "board %d %d %d" % (processors, pages, MOST)
     yield "moment %d" % MOST
@@ -79,9 +84,10 @@ def lines(processors, pages):
     for vp in range(processors):
         for sint in range(SOURCES):
             yield from queued(vp, sint, tickets, processors, pages)
+    placed = iter(range(first_ticket(processors, pages), first_queued(processors, pages)))
     for vp in range(processors):
         for sint in range(SOURCES):
-            yield "slot %d %d %d" % (vp, sint, next(tickets))
+            yield "slot %d %d %d" % (vp, sint, next(placed))
     yield "end"
 
 
@@ -93,7 +99,7 @@ def script_and_output(processors, pages):
     """Events on that board: port 0 has no buffer left, and closing it withdraws its messages."""
     vp, sint = target(0, processors)
     # those before it are of the timers of the processors below
-    first = first_ticket(processors, pages) + 4 * vp
+    first = first_queued(processors, pages) + 4 * vp
     withdrawn = "".join(". withdrawn %d %d %d\n" % (first + k, vp, sint) for k in range(BUFFERS))
     return ("post 0 1 -\nclose 0\npost 0 1 -\n",
             "= refused 8\n= done\n%s= refused 1\n" % withdrawn)

@@ -1,21 +1,21 @@
 -- What a roster and a part own, and that both may go to another thread. Assumes `Logic`.
-use Rattle.std.proofs.Common.{ℕ, List, [], ◌∷◌, refl}
+use Rattle.std.proofs.Common.{◌≡◌, ℕ, zero, suc, List, [], ◌∷◌, refl, sym, ap, set}
+use mathlib.Core.Option.{some, some-injective, some-ne-none}
+use lib.ListN.{get_elem?}
 use Rattle.std.specs.contracts.marker.PhantomData as marker
 use seplogic.Ra.Ura.{Ura}
 use mir.Syntax.{Sym}
 use mir.Val.{Val, vstruct, vcons, vnil}
 use base.Logic.{emp, ent}
-use base.Fml.{Fml, fex}
+use base.Fml.{Fml}
 use base.Share.{three_quarters}
-use base.Shift.{Keyless}
 use denote.Param.Send.{IsSend}
 use denote.Builtin.{unit}
-use denote.RattleType.{RattleType}
 use denote.Shadow.{makes_shadow}
 use denote.Struct.Struct.{Struct}
 use types.Keyed.{entry_keyless}
 use types.Logic.{Logic, sem}
-use Rattle.atomic_table.specs.Seated.{halved, roster, seen}
+use Rattle.atomic_table.specs.Seated.{halved, seen}
 use Rattle.atomic_table.proofs.Sent.{roster_keyless}
 use Rattle.ghost_history.specs.Rows.{Row}
 use Rattle.ghost_history.specs.inside.Codes.{row_coded}
@@ -52,3 +52,9 @@ part_send = record {
   owned = λ p vs. ((λ vss. (tt, ((λ uss. (tt, tt)), tt))), (λ k. entry_keyless halved p.name k _));
   leaving = λ k d w. tt;
 }
+
+-- setting a row to itself changes nothing
+pub set-same : (rows : List Row) (k : ℕ) (x : Row) → get_elem? rows k ≡ some x → set rows k x ≡ rows
+set-same [] k x at = absurd (some-ne-none x (sym at))
+set-same (y ∷ rows) zero x at = let is = some-injective y x at in λ i. sym is i ∷ rows
+set-same (y ∷ rows) (suc k) x at = ap (λ l. y ∷ l) (set-same rows k x at)

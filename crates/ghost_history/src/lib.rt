@@ -6,4 +6,4 @@ mod history;
 mod roster;
 
 pub use history::History;
-pub use roster::{Part, Roster};
+pub use roster::{Answered, Part, Roster};

@@ -3,13 +3,15 @@ ghost use Rattle.std.specs.Prelude.{◌≡◌, List, [], ◌∷◌, ◌++◌, �
 ghost use base.Fml.{fex};
 ghost use base.Share.{three_quarters};
 ghost use Rattle.atomic_table.specs.Seated.{roster, seen};
-ghost use Rattle.ghost_history.specs.Rows.{Row, row, IsExtended};
+ghost use Rattle.ghost_history.specs.Rows.{Row, row, answer, IsExtended, IsAmong};
 ghost use Rattle.ghost_history.specs.inside.Codes.{row_coded, rows_coded};
 
-use crate::history::History;
+use board_terms::Notices;
 use std::marker::{Model, PhantomData};
+use std::snapshot::Snapshot;
+use synic_board::{Event, Reply};
 
-/// A row for each actor: its number and its entries. Only an actor's own part changes its row, so a
+/// A row for each actor: its number, and what its events were answered. Only an actor's own part changes its row, so a
 /// roster under a lock and the parts outside agree. It takes no bytes.
 pub struct Roster {
     marker: PhantomData<()>,
@@ -32,6 +34,14 @@ impl Model for Part {
     ghost also_owns = { λ p. fex ℕ (λ k. seen row_coded.code p.name k three_quarters p.row) };
 }
 
+/// An event with its reply and its notices. It takes no bytes.
+#[derive(Drop)]
+pub struct Answered {
+    pub event: Snapshot<Event>,
+    pub reply: Snapshot<Reply>,
+    pub notices: Snapshot<Notices>,
+}
+
 impl Roster {
     /// A roster without rows.
     pub fn new() -> Roster
@@ -42,7 +52,7 @@ impl Roster {
         }
     }
 
-    /// Adds the row of an actor with this number, which has no entries.
+    /// Adds the row of an actor with this number, without answers.
     pub fn enroll(&mut self, number: u64) -> Part
         ensures names { (self.new.name ≡ self.old.name) × (result.name ≡ self.old.name) }
         ensures rows { self.new.rows ≡ self.old.rows ++ row number [] ∷ [] }
@@ -54,14 +64,23 @@ impl Roster {
         }
     }
 
-    /// Appends entries to the row of a part. The roster has that row, and changes no other.
-    pub fn extend(&mut self, part: &mut Part, more: &History)
+    /// Appends an answer to the row of a part. The roster has that row, and changes no other.
+    pub fn extend(&mut self, part: &mut Part, one: &Answered)
         requires { part.old.name ≡ self.old.name }
         ensures names { (self.new.name ≡ self.old.name) × (part.new.name ≡ self.old.name) }
-        ensures rows { IsExtended self.old.rows part.old.row more.now.entries self.new.rows part.new.row }
+        ensures rows { IsExtended self.old.rows part.old.row
+            (answer one.now.event.value one.now.reply.value one.now.notices.value) self.new.rows part.new.row }
     {
-        let _ = more;
+        let _ = one;
     }
+
+    /// Finds the row of a part, which the roster has. Changes nothing.
+    pub fn find(&mut self, part: &mut Part)
+        requires { part.old.name ≡ self.old.name }
+        ensures names { (self.new.name ≡ self.old.name) × (part.new.name ≡ self.old.name) }
+        ensures rows { (self.new.rows ≡ self.old.rows) × (part.new.row ≡ part.old.row)
+            × IsAmong self.old.rows part.old.row }
+    {}
 }
 
 impl Drop for Roster {

@@ -1,6 +1,6 @@
 -- What may join a queue is just what leaves a sound board.
 use Rattle.std.proofs.Common.{◌≡◌, ◌⊎◌, inl, inr, ℕ, ◌+◌, ◌/◌, ◌%◌, ◌<◌, ◌≤◌, Bool, true, cond, ◌&&◌, List, [], ◌∷◌, ◌++◌, length, refl, ap, subst, ◌∙◌, arith}
-use Rattle.std.specs.Prelude.{◌==◌, count_by, Some}
+use Rattle.std.specs.Prelude.{◌==◌, count_by, Option, None, Some}
 use Rattle.std.specs.List.{All}
 use Rattle.std.proofs.lemmas.Bool.{cases_lt}
 use Rattle.std.proofs.lemmas.Bool.Decides.{nat_tests}
@@ -14,10 +14,10 @@ use Rattle.board_terms.specs.Sources.{source_number}
 use Rattle.event_ports.specs.declared.ports.Port.{Port}
 use Rattle.event_ports.specs.Ports.{port_at}
 use Rattle.message_queues.specs.Queues.{is_from_port, is_from_timer, timer_used, queue_of, processors_of, most_ports, HasBuffer}
-use Rattle.synic_board.specs.State.{State, processors, ports_of}
+use Rattle.synic_board.specs.State.{State, processors, ports_of, slot_of}
 use Rattle.synic_board.specs.Locations.{times, locations}
 use Rattle.synic_board.specs.Sound.{IsMessage, IsSound}
-use Rattle.synic_board.specs.Timed.{Ascends, HasExpired}
+use Rattle.synic_board.specs.Timed.{Ascends, Precedes, HasExpired}
 use Rattle.synic_board.specs.Buffers.{IsHome, HasBuffers}
 use Rattle.synic_board.specs.Restoring.{with_message, IsWithinShare, MayJoin}
 use Rattle.synic_board.proofs.keeping.Counts.{in_queue, one, times-locations, in_queue-push}
@@ -54,6 +54,7 @@ may-join s p i m below under before sound buffers = record {
   };
   order = ascends-last s.next_ticket (queue_of s.queues p i) m
       (subst (Ascends s.next_ticket) (get_or-set_same s.queues j q [] inside) (buffers.timed.order j));
+  behind = λ t is. behind (slot_of s p i) t is (buffers.timed.ahead j);
   time = subst (λ k. HasExpired s.moment k m) place (last (HasExpired s.moment (j % 16)) (buffers.timed.timely j));
 }
   where
@@ -76,6 +77,13 @@ may-join s p i m below under before sound buffers = record {
     last P all =
         (All-pop P q (queue_of s.queues p i) (Some m) refl
         (subst (All P) (get_or-set_same s.queues j q [] inside) all)).1
+
+    behind : (o : Option ℕ) (t : ℕ) → o ≡ Some t → Precedes s.next_ticket o (queue_of now.queues p i) → t < ticket_of m
+    behind None t is h = absurd (cc)
+    behind (Some x) t is h =
+        let same : x ≡ t = cc in
+        let first : x < ticket_of m = last (λ y. x < ticket_of y) h.1 in
+        omega (arith, same, first)
 
     home : IsHome s.ports p i m
     home = last (IsHome s.ports p i) (buffers.home p i under)

@@ -3,8 +3,11 @@ mod Moved
 mod Forms
 mod Frames
 mod Commuting
+mod Carried
+mod CarriedSteps
 mod Elsewhere
 mod Alike
+mod Outside
 pub mod Isolated
 mod IsolatedEffects
 pub mod Isolating

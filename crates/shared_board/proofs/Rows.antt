@@ -11,116 +11,116 @@ use lib.ListN.{get_elem?}
 use Rattle.synic_board.specs.declared.history.Entry.{Entry}
 use Rattle.ghost_history.specs.Rows.{Row, row}
 use Rattle.actor_calls.proofs.Taking.{taken-on}
-use Rattle.shared_board.specs.Calling.{Calling}
-use Rattle.shared_board.specs.inside.Rostered.{entries_by, rows_of}
+use Rattle.shared_board.specs.Calling.{Calling, Said, said_to}
+use Rattle.shared_board.specs.inside.Rostered.{rows_of}
 
-abbrev is_by : ℕ → Entry → Bool
-is_by n e = n == e.actor
+abbrev is_by : ℕ → Said → Bool
+is_by n e = n == e.0
 
--- one more entry joins those of its actor, and of no other
-by_test : (n : ℕ) (e : Entry) (b : Bool) → is_by n e ≡ b → filter (is_by n) (e ∷ []) ≡ cond b (e ∷ []) []
+pub said_to-append : (n : ℕ) (xs ys : List Said) → said_to n (xs ++ ys) ≡ said_to n xs ++ said_to n ys
+said_to-append n xs ys =
+    ap (map (λ (x : Said). x.1)) (filter-append (is_by n) xs ys)
+    ∙ map-append (λ (x : Said). x.1) (filter (is_by n) xs) (filter (is_by n) ys)
+
+-- one more answer joins those to its actor, and to no other
+by_test : (n : ℕ) (e : Said) (b : Bool) → is_by n e ≡ b → filter (is_by n) (e ∷ []) ≡ cond b (e ∷ []) []
 by_test n e b is = ap (λ (c : Bool). cond c (e ∷ []) []) is
 
-own-push : (n : ℕ) (h : List Entry) (e : Entry) → e.actor ≡ n → entries_by n (h ++ e ∷ []) ≡ entries_by n h ++ e ∷ []
+own-push : (n : ℕ) (h : List Said) (e : Said) → e.0 ≡ n → said_to n (h ++ e ∷ []) ≡ said_to n h ++ e.1 ∷ []
 own-push n h e is =
-    filter-append (is_by n) h (e ∷ []) ∙ ap (λ l. entries_by n h ++ l) (by_test n e true (grind (arith, nat_tests)))
+    said_to-append n h (e ∷ [])
+    ∙ ap (λ l. said_to n h ++ map (λ (x : Said). x.1) l) (by_test n e true (grind (arith, nat_tests)))
 
-other-push : (n : ℕ) (h : List Entry) (e : Entry) → is_by n e ≡ false → entries_by n (h ++ e ∷ []) ≡ entries_by n h
+other-push : (n : ℕ) (h : List Said) (e : Said) → is_by n e ≡ false → said_to n (h ++ e ∷ []) ≡ said_to n h
 other-push n h e is =
-    filter-append (is_by n) h (e ∷ []) ∙ ap (λ l. entries_by n h ++ l) (by_test n e false is)
-    ∙ append-nil (entries_by n h)
+    said_to-append n h (e ∷ []) ∙ ap (λ l. said_to n h ++ map (λ (x : Said). x.1) l) (by_test n e false is)
+    ∙ append-nil (said_to n h)
 
 -- the rows of n actors from a on
-abbrev rows_from : ℕ → ℕ → List Entry → List Row
-rows_from a n h = map (λ k. row k (entries_by k h)) (range_with_len a n)
+abbrev rows_from : ℕ → ℕ → List Said → List Row
+rows_from a n h = map (λ k. row k (said_to k h)) (range_with_len a n)
 
-row-at : (a n k : ℕ) (h : List Entry) (x : Row) → get_elem? (rows_from a n h) k ≡ some x → (k < n)
-    × (x ≡ row (a + k) (entries_by (a + k) h))
+row-at : (a n k : ℕ) (h : List Said) (x : Row) → get_elem? (rows_from a n h) k ≡ some x → (k < n)
+    × (x ≡ row (a + k) (said_to (a + k) h))
 row-at a zero k h x at = absurd (some-ne-none x (sym at))
 row-at a (suc n) zero h x at =
     let same : a ≡ a + 0 = omega arith in
-    (omega arith, sym (some-injective (row a (entries_by a h)) x at) ∙ ap (λ m. row m (entries_by m h)) same)
+    (omega arith, sym (some-injective (row a (said_to a h)) x at) ∙ ap (λ m. row m (said_to m h)) same)
 row-at a (suc n) (suc k) h x at =
     let r = row-at (a + 1) n k h x at in
     let same : a + 1 + k ≡ a + suc k = omega arith in
     let inside : k < n = r.0 in
-    (omega arith, r.1 ∙ ap (λ m. row m (entries_by m h)) same)
+    (omega arith, r.1 ∙ ap (λ m. row m (said_to m h)) same)
 
 -- the row at an index is that actor's
-pub row-of : (n k : ℕ) (h : List Entry) (x : Row) → get_elem? (rows_of n h) k ≡ some x → (k < n)
-    × (x ≡ row k (entries_by k h))
+pub row-of : (n k : ℕ) (h : List Said) (x : Row) → get_elem? (rows_of n h) k ≡ some x → (k < n)
+    × (x ≡ row k (said_to k h))
 row-of n k h x at =
     let r = row-at 0 n k h x at in
     let same : 0 + k ≡ k = omega arith in
-    (r.0, r.1 ∙ ap (λ m. row m (entries_by m h)) same)
+    (r.0, r.1 ∙ ap (λ m. row m (said_to m h)) same)
 
 -- an entry of an actor below leaves the rows
-later : (a n : ℕ) (h : List Entry) (e : Entry) → e.actor < a → rows_from a n h ≡ rows_from a n (h ++ e ∷ [])
+later : (a n : ℕ) (h : List Said) (e : Said) → e.0 < a → rows_from a n h ≡ rows_from a n (h ++ e ∷ [])
 later a zero h e below = refl
 later a (suc n) h e below =
-    let same : entries_by a h ≡ entries_by a (h ++ e ∷ []) = sym (other-push a h e (grind (arith, nat_tests))) in
+    let same : said_to a h ≡ said_to a (h ++ e ∷ []) = sym (other-push a h e (grind (arith, nat_tests))) in
     let rest = later (a + 1) n h e (omega arith) in
     λ i. row a (same i) ∷ rest i
 
-set-from : (a n k : ℕ) (h : List Entry) (e : Entry) → k < n → e.actor ≡ a + k
-    → set (rows_from a n h) k (row (a + k) (entries_by (a + k) h ++ e ∷ [])) ≡ rows_from a n (h ++ e ∷ [])
+set-from : (a n k : ℕ) (h : List Said) (e : Said) → k < n → e.0 ≡ a + k
+    → set (rows_from a n h) k (row (a + k) (said_to (a + k) h ++ e.1 ∷ [])) ≡ rows_from a n (h ++ e ∷ [])
 set-from a zero k h e inside is = absurd (omega arith)
 set-from a (suc n) zero h e inside is =
     let here : a + 0 ≡ a = omega arith in
-    let first : row (a + 0) (entries_by (a + 0) h ++ e ∷ []) ≡ row a (entries_by a (h ++ e ∷ [])) =
-    ap (λ m. row m (entries_by m h ++ e ∷ [])) here ∙ ap (row a) (sym (own-push a h e (omega arith))) in
+    let first : row (a + 0) (said_to (a + 0) h ++ e.1 ∷ []) ≡ row a (said_to a (h ++ e ∷ [])) =
+    ap (λ m. row m (said_to m h ++ e.1 ∷ [])) here ∙ ap (row a) (sym (own-push a h e (omega arith))) in
     let rest = later (a + 1) n h e (omega arith) in
     λ i. first i ∷ rest i
 set-from a (suc n) (suc k) h e inside is =
     let here : a + suc k ≡ a + 1 + k = omega arith in
-    let same : entries_by a h ≡ entries_by a (h ++ e ∷ []) = sym (other-push a h e (grind (arith, nat_tests))) in
-    let rest = ap (λ m. set (rows_from (a + 1) n h) k (row m (entries_by m h ++ e ∷ []))) here
+    let same : said_to a h ≡ said_to a (h ++ e ∷ []) = sym (other-push a h e (grind (arith, nat_tests))) in
+    let rest = ap (λ m. set (rows_from (a + 1) n h) k (row m (said_to m h ++ e.1 ∷ []))) here
     ∙ set-from (a + 1) n k h e (omega arith) (omega arith) in
     λ i. row a (same i) ∷ rest i
 
 -- one more entry changes the row of its actor alone
-pub rows-push : (n k : ℕ) (h : List Entry) (e : Entry) → k < n → e.actor ≡ k
-    → set (rows_of n h) k (row k (entries_by k h ++ e ∷ [])) ≡ rows_of n (h ++ e ∷ [])
+pub rows-push : (n k : ℕ) (h : List Said) (e : Said) → k < n → e.0 ≡ k
+    → set (rows_of n h) k (row k (said_to k h ++ e.1 ∷ [])) ≡ rows_of n (h ++ e ∷ [])
 rows-push n k h e inside is =
     let here : k ≡ 0 + k = omega arith in
-    ap (λ m. set (rows_of n h) k (row m (entries_by m h ++ e ∷ []))) here ∙ set-from 0 n k h e inside (omega arith)
-
--- setting a row to itself changes nothing
-pub set-same : (rows : List Row) (k : ℕ) (x : Row) → get_elem? rows k ≡ some x → set rows k x ≡ rows
-set-same [] k x at = absurd (some-ne-none x (sym at))
-set-same (y ∷ rows) zero x at = let is = some-injective y x at in λ i. sym is i ∷ rows
-set-same (y ∷ rows) (suc k) x at = ap (λ l. y ∷ l) (set-same rows k x at)
+    ap (λ m. set (rows_of n h) k (row m (said_to m h ++ e.1 ∷ []))) here ∙ set-from 0 n k h e inside (omega arith)
 
 -- an actor above all others has no entry
-none-by : (n : ℕ) (h : List Entry) → All (λ (e : Entry). e.actor < n) h → entries_by n h ≡ []
+none-by : (n : ℕ) (h : List Said) → All (λ (e : Said). e.0 < n) h → said_to n h ≡ []
 none-by n [] all = refl
 none-by n (e ∷ h) all =
-    let below : e.actor < n = All-head (λ (x : Entry). x.actor < n) e h all in
+    let below : e.0 < n = All-head (λ (x : Said). x.0 < n) e h all in
     let not : is_by n e ≡ false = grind (arith, nat_tests) in
-    ap (λ (c : Bool). cond c (e ∷ entries_by n h) (entries_by n h)) not
-    ∙ none-by n h (All-tail (λ (x : Entry). x.actor < n) e h all)
+    ap (λ (c : Bool). map (λ (x : Said). x.1) (cond c (e ∷ filter (is_by n) h) (filter (is_by n) h))) not
+    ∙ none-by n h (All-tail (λ (x : Said). x.0 < n) e h all)
 
-more-from : (a n : ℕ) (h : List Entry) → entries_by (a + n) h ≡ []
+more-from : (a n : ℕ) (h : List Said) → said_to (a + n) h ≡ []
     → rows_from a n h ++ row (a + n) [] ∷ [] ≡ rows_from a (suc n) h
 more-from a zero h none =
     let here : a + 0 ≡ a = omega arith in
-    let first : row (a + 0) [] ≡ row a (entries_by a h) =
-    ap (row (a + 0)) (sym none) ∙ ap (λ m. row m (entries_by m h)) here in
+    let first : row (a + 0) [] ≡ row a (said_to a h) =
+    ap (row (a + 0)) (sym none) ∙ ap (λ m. row m (said_to m h)) here in
     λ i. first i ∷ []
 more-from a (suc n) h none =
     let here : a + suc n ≡ a + 1 + n = omega arith in
     let rest = ap (λ m. rows_from (a + 1) n h ++ row m [] ∷ []) here
-    ∙ more-from (a + 1) n h (ap (λ m. entries_by m h) (sym here) ∙ none) in
-    ap (λ l. row a (entries_by a h) ∷ l) rest
+    ∙ more-from (a + 1) n h (ap (λ m. said_to m h) (sym here) ∙ none) in
+    ap (λ l. row a (said_to a h) ∷ l) rest
 
 -- one more actor has a row without entries
-pub rows-more : (n : ℕ) (h : List Entry) → All (λ (e : Entry). e.actor < n) h
+pub rows-more : (n : ℕ) (h : List Said) → All (λ (e : Said). e.0 < n) h
     → rows_of n h ++ row n [] ∷ [] ≡ rows_of (n + 1) h
 rows-more n h all =
     let here : n ≡ 0 + n = omega arith in
     let one : suc n ≡ n + 1 = omega arith in
     ap (λ m. rows_of n h ++ row m [] ∷ []) here
-    ∙ more-from 0 n h (ap (λ m. entries_by m h) (sym here) ∙ none-by n h all) ∙ ap (λ m. rows_of m h) one
+    ∙ more-from 0 n h (ap (λ m. said_to m h) (sym here) ∙ none-by n h all) ∙ ap (λ m. rows_of m h) one
 
 pub all-push : (n : ℕ) (h : List Entry) (e : Entry) → All (λ (x : Entry). x.actor < n) h → e.actor < n
     → All (λ (x : Entry). x.actor < n) (h ++ e ∷ [])

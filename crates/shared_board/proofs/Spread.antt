@@ -13,14 +13,21 @@ use Rattle.synic_board.specs.State.{State}
 use Rattle.synic_board.specs.declared.event.Event.{Event}
 use Rattle.synic_board.specs.declared.event.Reply.{Reply}
 use Rattle.synic_board.specs.declared.history.Entry.{Entry}
-use Rattle.actor_calls.specs.Calls.{Call, call_of, calls_by}
+use Rattle.synic_board.specs.History.{IsLegal}
+use Rattle.ghost_history.specs.Rows.{Answer}
+use Rattle.actor_calls.specs.Calls.{Call, call_of}
 use Rattle.actor_calls.specs.Sweeps.{sweeps_of}
 use Rattle.actor_calls.specs.Absorbed.{AreAbsorbed}
 use Rattle.actor_calls.proofs.Absorbed.{sum-map}
 use Rattle.actor_calls.proofs.Absorbed.{absorbed}
-use Rattle.shared_board.specs.Calling.{Calling}
+use Rattle.shared_board.specs.Calling.{Calling, Said, said_from, said_to, call_in}
 use Rattle.shared_board.specs.Sweeping.{OnlyRaises, swept_by}
 use Rattle.shared_board.specs.Witnessed.{IsEnded}
+use Rattle.shared_board.proofs.Saying.{said-few, said-legal}
+
+-- the calls of an actor, without notices
+abbrev calls_of : Calling → List Call
+calls_of a = map call_in a.calls
 
 module _ {A : Type 0} where
   plus : (f g : A → ℕ) (xs : List A) → sum_by (λ x. f x + g x) xs ≡ sum_by f xs + sum_by g xs
@@ -79,74 +86,88 @@ once x a s (suc n) le lt = by (λ next. once x a (s + 1) n next (omega (arith, l
           sum_by-cons (hit x a) s (range_with_len (s + 1) n),
         )
 
--- a sum over entries is that over the actors' entries
-module _ (g : Entry → ℕ) where
-  part : List Entry → ℕ → ℕ
-  part h k = sum_by g (filter (λ (e : Entry). k == e.actor) h)
+-- a sum over answers is that over the actors' answers
+module _ (g : Said → ℕ) where
+  part : List Said → ℕ → ℕ
+  part h k = sum_by g (filter (λ (e : Said). k == e.0) h)
 
-  part-cons : (e : Entry) (h : List Entry) (k : ℕ) → part (e ∷ h) k ≡ hit (g e) e.actor k + part h k
+  part-cons : (e : Said) (h : List Said) (k : ℕ) → part (e ∷ h) k ≡ hit (g e) e.0 k + part h k
   unfolding part hit
-  part-cons e h k = by (k == e.actor)
+  part-cons e h k = by (k == e.0)
     where
       by : (b : Bool) → sum_by g
-          (cond b (e ∷ filter (λ (x : Entry). k == x.actor) h) (filter (λ (x : Entry). k == x.actor) h))
-          ≡ cond b (g e) 0 + sum_by g (filter (λ (x : Entry). k == x.actor) h)
-      by true = sum_by-cons g e (filter (λ (x : Entry). k == x.actor) h)
+          (cond b (e ∷ filter (λ (x : Said). k == x.0) h) (filter (λ (x : Said). k == x.0) h))
+          ≡ cond b (g e) 0 + sum_by g (filter (λ (x : Said). k == x.0) h)
+      by true = sum_by-cons g e (filter (λ (x : Said). k == x.0) h)
       by false = omega arith
 
   part-nil : (k : ℕ) → part [] k ≡ 0
   unfolding part
   part-nil k = refl
 
-  spread : (n : ℕ) (h : List Entry) → All (λ (e : Entry). e.actor < n) h
+  spread : (n : ℕ) (h : List Said) → All (λ (e : Said). e.0 < n) h
       → sum_by g h ≡ sum_by (part h) (range_with_len 0 n)
   spread n [] few = sym (zeros (part []) (range_with_len 0 n) part-nil)
   spread n (e ∷ h) few =
-      let P = λ (x : Entry). x.actor < n in
+      let P = λ (x : Said). x.0 < n in
       omega (
         arith,
         sum_by-cons g e h,
         spread n h (All-tail P e h few),
-        same (part (e ∷ h)) (λ k. hit (g e) e.actor k + part h k) (range_with_len 0 n) (part-cons e h),
-        plus (hit (g e) e.actor) (part h) (range_with_len 0 n),
-        once (g e) e.actor 0 n (omega arith) (omega (arith, All-head P e h few)),
+        same (part (e ∷ h)) (λ k. hit (g e) e.0 k + part h k) (range_with_len 0 n) (part-cons e h),
+        plus (hit (g e) e.0) (part h) (range_with_len 0 n),
+        once (g e) e.0 0 n (omega arith) (omega (arith, All-head P e h few)),
       )
 
 -- the calls of the actors are those of the history
 module _ (f : Event → Reply → ℕ) where
-  abbrev of_entry : Entry → ℕ
-  of_entry e = f e.event e.reply
+  abbrev of_call : Call → ℕ
+  of_call c = f c.0 c.1
 
-  abbrev of_calls : List Call → ℕ
-  of_calls cs = sum_by (λ (c : Call). f c.0 c.1) cs
+  abbrev of_said : Said → ℕ
+  of_said x = of_call (call_in x.1)
 
-  own-part : (h : List Entry) (a : Calling) → calls_by a.number h ≡ a.calls
-      → part of_entry h a.number ≡ of_calls a.calls
+  abbrev of_answers : List Answer → ℕ
+  of_answers xs = sum_by (λ (x : Answer). of_call (call_in x)) xs
+
+  own-part : (all : List Said) (a : Calling) → said_to a.number all ≡ a.calls
+      → part of_said all a.number ≡ of_answers a.calls
   unfolding part
-  own-part h a own =
-      sym (sum-map (λ (c : Call). f c.0 c.1) call_of (filter (λ (e : Entry). a.number == e.actor) h)) ∙ ap of_calls own
+  own-part all a own =
+      sym (sum-map (λ (x : Answer). of_call (call_in x)) (λ (x : Said). x.1)
+      (filter (λ (x : Said). a.number == x.0) all)) ∙ ap of_answers own
 
-  own-parts : (h : List Entry) (actors : List Calling) → All (λ (a : Calling). calls_by a.number h ≡ a.calls) actors
-      → sum_by (part of_entry h) (map (λ (a : Calling). a.number) actors)
-      ≡ sum_by of_calls (map (λ (a : Calling). a.calls) actors)
-  own-parts h [] own = refl
-  own-parts h (a ∷ actors) own =
-      let P = λ (x : Calling). calls_by x.number h ≡ x.calls in
+  own-parts : (all : List Said) (actors : List Calling) → All (λ (a : Calling). said_to a.number all ≡ a.calls) actors
+      → sum_by (part of_said all) (map (λ (a : Calling). a.number) actors)
+      ≡ sum_by (λ cs. sum_by of_call cs) (map calls_of actors)
+  own-parts all [] own = refl
+  own-parts all (a ∷ actors) own =
+      let P = λ (x : Calling). said_to x.number all ≡ x.calls in
       omega (
         arith,
-        own-part h a (All-head P a actors own),
-        own-parts h actors (All-tail P a actors own),
-        sum_by-cons (part of_entry h) a.number (map (λ (x : Calling). x.number) actors),
-        sum_by-cons of_calls a.calls (map (λ (x : Calling). x.calls) actors),
+        own-part all a (All-head P a actors own),
+        sum-map of_call call_in a.calls,
+        own-parts all actors (All-tail P a actors own),
+        sum_by-cons (part of_said all) a.number (map (λ (x : Calling). x.number) actors),
+        sum_by-cons (λ cs. sum_by of_call cs) (calls_of a) (map calls_of actors),
       )
 
-  pub counted : (start now : State) (h : List Entry) (actors : List Calling) → IsEnded start now h actors
-      → sum_by of_entry h ≡ sum_by of_calls (map (λ (a : Calling). a.calls) actors)
-  counted start now h actors ended =
-      spread of_entry (length actors) h ended.all ∙ ap (sum_by (part of_entry h)) (sym ended.numbers)
-      ∙ own-parts h actors ended.own
+  -- the entries of a legal history are what was said
+  all-said : (start : State) (h : List Entry) → IsLegal start h
+      → sum_by (λ (e : Entry). f e.event e.reply) h ≡ sum_by of_said (said_from start h)
+  all-said start h legal =
+      sym (sum-map of_call call_of h) ∙ ap (sum_by of_call) (sym (said-legal start h legal))
+      ∙ sum-map of_call (λ (x : Said). call_in x.1) (said_from start h)
 
-swept : (actors : List Calling) → map swept_by actors ≡ map sweeps_of (map (λ (a : Calling). a.calls) actors)
+  pub counted : (start now : State) (h : List Entry) (actors : List Calling) → IsEnded start now h actors
+      → sum_by (λ (e : Entry). f e.event e.reply) h ≡ sum_by (λ cs. sum_by of_call cs) (map calls_of actors)
+  counted start now h actors ended =
+      let all : List Said = said_from start h in
+      all-said start h ended.run.legal
+      ∙ spread of_said (length actors) all (said-few (length actors) start h ended.all)
+      ∙ ap (sum_by (part of_said all)) (sym ended.numbers) ∙ own-parts all actors ended.own
+
+swept : (actors : List Calling) → map swept_by actors ≡ map sweeps_of (map calls_of actors)
 swept [] = refl
 swept (a ∷ actors) = ap (λ l. swept_by a ∷ l) (swept actors)
 
@@ -157,7 +178,7 @@ pub each-absorbed : (start now : State) (history : List Entry) (actors : List Ca
     → AreAbsorbed n (map actions_of lines) history standing
 each-absorbed start now history actors sweepers lines n standing ended own only width settled =
     let both : map actions_of (sweepers ++ lines)
-    ≡ map sweeps_of (map (λ (a : Calling). a.calls) actors) ++ map actions_of lines =
+    ≡ map sweeps_of (map calls_of actors) ++ map actions_of lines =
     map-append actions_of sweepers lines ∙ ap (λ l. l ++ map actions_of lines) (own ∙ swept actors) in
-    absorbed n (map (λ (a : Calling). a.calls) actors) lines history standing
+    absorbed n (map calls_of actors) lines history standing
     (λ f. counted f start now history actors ended) only width (subst (λ l. Settled n l standing) both settled)

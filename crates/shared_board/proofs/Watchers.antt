@@ -1,18 +1,20 @@
 -- What watchers have seen, as parts of one history.
-use Rattle.std.proofs.Common.{◌≡◌, ◌<◌, ℕ, zero, suc, ◌+◌, length, take, arith, List, [], ◌∷◌, ◌++◌, All, map, get_or, ◌⊎◌, inl, inr, refl, sym, ap, subst, ◌∙◌, ⊎_elim}
-use Rattle.std.specs.Prelude.{◌==◌, filter}
-use Rattle.std.proofs.lemmas.List.Elements.{All-append, filter-append}
-use mathlib.Core.List.{IsPrefix, map-append}
+use Rattle.std.proofs.Common.{◌≡◌, ◌<◌, ℕ, zero, suc, ◌+◌, length, take, arith, List, [], ◌∷◌, All, get_or, ◌⊎◌, inl, inr, refl, sym, ap, subst, ◌∙◌, ⊎_elim}
+use Rattle.std.proofs.lemmas.List.Elements.{All-append}
+use mathlib.Core.List.{IsPrefix}
 use base.Growing.{prefix_trans}
 use Rattle.synic_board.specs.State.{State}
 use Rattle.synic_board.specs.declared.history.Entry.{Entry}
 use Rattle.published_words.specs.Values.{word_count}
 use Rattle.published_words.specs.Words.{Logs, Watching, log_at, IsWithin}
 use Rattle.published_words.specs.Storing.{IsCurrent}
-use Rattle.actor_calls.specs.Calls.{Call, call_of, calls_by}
+use Rattle.synic_board.specs.History.{leads_to}
+use Rattle.ghost_history.specs.Rows.{Answer}
 use Rattle.actor_calls.proofs.Taking.{taken-on}
-use Rattle.shared_board.specs.Calling.{Calling}
+use Rattle.shared_board.specs.Calling.{Calling, Said, said_from, said_to, calls_by}
 use Rattle.shared_board.specs.Witnessed.{IsEnded}
+use Rattle.shared_board.proofs.Rows.{said_to-append}
+use Rattle.shared_board.proofs.Saying.{said-append}
 
 -- of two prefixes of one list, one is a prefix of the other
 comparable : {A : Type 0} (xs ys zs : List A) → IsPrefix xs zs → IsPrefix ys zs → IsPrefix xs ys ⊎ IsPrefix ys xs
@@ -42,22 +44,21 @@ within words start now history logs w same there is part =
     }
 
 -- of the calls of an actor in a history, a prefix of the history has the first ones
-calls-append : (n : ℕ) (xs ys : List Entry) → calls_by n (xs ++ ys) ≡ calls_by n xs ++ calls_by n ys
-calls-append n xs ys =
-    let by = λ (e : Entry). n == e.actor in
-    ap (map call_of) (filter-append by xs ys) ∙ map-append call_of (filter by xs) (filter by ys)
-
-first-calls : (n : ℕ) (seen history : List Entry) (calls : List Call) → IsPrefix seen history
-    → calls_by n history ≡ calls → IsPrefix (calls_by n seen) calls
-first-calls n seen history calls part own =
-    (calls_by n part.0, sym (calls-append n seen part.0) ∙ ap (calls_by n) part.1 ∙ own)
+first-calls : (n : ℕ) (start : State) (seen history : List Entry) (calls : List Answer) → IsPrefix seen history
+    → calls_by n start history ≡ calls → IsPrefix (calls_by n start seen) calls
+first-calls n start seen history calls part own =
+    let rest : List Said = said_from (leads_to start seen) part.0 in (
+      said_to n rest,
+      sym (said_to-append n (said_from start seen) rest) ∙ ap (said_to n) (sym (said-append start seen part.0))
+          ∙ ap (calls_by n start) part.1 ∙ own,
+    )
 
 pub sees : (start now : State) (history : List Entry) (actors : List Calling) (w : Watching)
     → IsEnded start now history actors → IsWithin history w
-    → All (λ (a : Calling). IsPrefix (calls_by a.number w.seen) a.calls) actors
+    → All (λ (a : Calling). IsPrefix (calls_by a.number start w.seen) a.calls) actors
 sees start now history actors w ended part =
     λ k d inside. let a =
-    get_or actors k d in first-calls a.number w.seen history a.calls part.seen (ended.own k d inside)
+    get_or actors k d in first-calls a.number start w.seen history a.calls part.seen (ended.own k d inside)
 
 -- one more watcher was compared
 pub one-more : (history : List Entry) (watchers : List Watching) (n : ℕ) (w : Watching) → n < length watchers

@@ -9,8 +9,7 @@ use Rattle.synic_board.specs.Step.{step}
 use Rattle.synic_board.specs.declared.event.Event.{Event}
 use Rattle.synic_board.specs.declared.event.Reply.{Reply}
 use Rattle.synic_board.specs.declared.history.Entry.{Entry}
-use Rattle.actor_calls.specs.Calls.{calls_by}
-use Rattle.shared_board.specs.Calling.{Calling}
+use Rattle.shared_board.specs.Calling.{Calling, calls_by}
 
 -- the board, the history of all calls since it was shared, and the number of its actors
 pub record Witnessed : Type 0 where
@@ -31,11 +30,13 @@ pub record IsOneThread (start now : State) (history : List Entry) : Type 0 where
   pub legal : IsLegal start history
   pub leads : now ≡ leads_to start history
 
--- An event among the calls of a run of one thread: after those before it, the reference model answers it so.
-pub record IsAnswered (start : State) (event : Event) (reply : Reply) (notices : List Notice) : Type 0 where
+-- An event among the calls of a run of one thread, in which the actor's calls before it are the actor's: after those
+-- before it, the reference model answers it so.
+pub record IsAnswered (start : State) (a : Calling) (event : Event) (reply : Reply) (notices : List Notice) : Type 0 where
   pub before : List Entry
   pub mid : State
   pub run : IsOneThread start mid before
+  pub own : calls_by a.number start before ≡ a.calls
   pub reply_is : (step mid event).1 ≡ reply
   pub notices_are : (step mid event).2 ≡ notices
 
@@ -44,7 +45,7 @@ pub record IsEnded (start now : State) (history : List Entry) (actors : List Cal
   pub run : IsOneThread start now history
   -- the actors are numbered from 0
   pub numbers : map (λ (a : Calling). a.number) actors ≡ range_with_len 0 (length actors)
-  -- the entries of an actor are its calls, in its order
-  pub own : All (λ (a : Calling). calls_by a.number history ≡ a.calls) actors
+  -- the entries of an actor are its calls, in its order, with the replies and the notices that it had
+  pub own : All (λ (a : Calling). calls_by a.number start history ≡ a.calls) actors
   -- and there are no others
   pub all : All (λ (e : Entry). e.actor < length actors) history

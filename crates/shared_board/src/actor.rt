@@ -1,7 +1,6 @@
 // An actor, whose calls exist only in contracts.
-ghost use Rattle.std.specs.Prelude.{◌≡◌, map, []};
+ghost use Rattle.std.specs.Prelude.{◌≡◌, []};
 ghost use Rattle.ghost_history.specs.Rows.{row};
-ghost use Rattle.actor_calls.specs.Calls.{call_of};
 ghost use Rattle.shared_board.specs.Calling.{calling};
 
 use crate::sharing::Sharing;
@@ -9,7 +8,7 @@ use ghost_history::Part;
 use std::marker::{Model, PhantomData};
 
 /// The right of one thread to perform events on a shared board. It takes eight bytes. Its contract
-/// shows its number and its calls in order, of which nothing is stored.
+/// shows its number and its calls in order, with their replies and notices, of which nothing is stored.
 #[derive(Drop)]
 pub struct Actor<S: Sharing> {
     number: u64,
@@ -18,13 +17,12 @@ pub struct Actor<S: Sharing> {
 }
 
 impl<S: Sharing> Model for Actor<S> {
-    ghost use Rattle.std.specs.Prelude.{◌≡◌, map};
-    ghost use Rattle.actor_calls.specs.Calls.{call_of};
+    ghost use Rattle.std.specs.Prelude.{◌≡◌};
     ghost use Rattle.shared_board.specs.Calling.{Calling, calling};
 
     ghost Value = { Calling };
 
-    ghost view = { λ a. calling a.number (map call_of a.part.row.1) };
+    ghost view = { λ a. calling a.number a.part.row.1 };
 
     ghost invariant = { λ a. (a.part.name ≡ S.name) × (a.part.row.0 ≡ a.number) };
 }

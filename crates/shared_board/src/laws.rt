@@ -6,9 +6,8 @@ ghost use Rattle.posted_words.specs.Words.{Token, actions_of};
 ghost use Rattle.synic_board.specs.State.{State};
 ghost use Rattle.synic_board.specs.declared.history.Entry.{Entry};
 ghost use Rattle.published_words.specs.Words.{Watching, IsWithin};
-ghost use Rattle.actor_calls.specs.Calls.{calls_by};
 ghost use Rattle.actor_calls.specs.Absorbed.{AreAbsorbed};
-ghost use Rattle.shared_board.specs.Calling.{Calling};
+ghost use Rattle.shared_board.specs.Calling.{Calling, calls_by};
 ghost use Rattle.shared_board.specs.Sweeping.{OnlyRaises, swept_by};
 ghost use Rattle.shared_board.specs.Witnessed.{IsEnded};
 
@@ -39,5 +38,5 @@ pub fn two_watchers_agree()
 pub fn a_watcher_sees_first_calls()
     ensures { (start now : State) (history : List Entry) (actors : List Calling) (watcher : Watching)
         → IsEnded start now history actors → IsWithin history watcher
-        → All (λ (a : Calling). IsPrefix (calls_by a.number watcher.seen) a.calls) actors }
+        → All (λ (a : Calling). IsPrefix (calls_by a.number start watcher.seen) a.calls) actors }
 {}

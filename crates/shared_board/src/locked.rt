@@ -6,18 +6,18 @@ ghost use Rattle.synic_board.specs.State.{processors};
 ghost use Rattle.synic_board.specs.Performing.{Performs};
 ghost use Rattle.synic_board.specs.Sound.{PayloadFits};
 ghost use Rattle.synic_board.specs.declared.event.Event.TheVariants.{Absorb};
-ghost use Rattle.actor_calls.specs.Calls.{calls_by};
 ghost use Rattle.actor_calls.specs.Sweeps.{is_refusal, sweep_in};
-ghost use Rattle.shared_board.specs.Calling.{calling, with_call};
+ghost use Rattle.shared_board.specs.Calling.{calling, calls_by, with_call};
 ghost use Rattle.shared_board.specs.Witnessed.{witnessed, with_entry, IsOneThread, IsEnded};
 
 use crate::actor::Actor;
 use crate::shared::Ended;
 use crate::sharing::Sharing;
 use board_terms::Notices;
-use ghost_history::{History, Roster};
+use ghost_history::{Answered, History, Roster};
 use posted_words::{PostedWords, Sweeper};
 use std::marker::{Model, PhantomData};
+use std::snapshot::Snapshot;
 use synic_board::{Board, Event, Reply};
 
 /// A shared board while a thread holds its lock. Its contract shows the board, the history of all
@@ -97,24 +97,26 @@ impl<S: Sharing> LockedBoard<S> {
     }
 
     /// Performs an event for an actor. Takes no memory and has no fault: what the board refuses is a
-    /// reply like any other.
+    /// reply like any other. Before it, the actor's calls are its own in the history.
     // So that each caller has an instance of `Board::perform` of its own.
     #[inline(always)]
     pub fn perform(&mut self, actor: &mut Actor<S>, event: &Event, notices: &mut Notices) -> Reply
         ensures performs { Performs self.old.board event.now self.new.board result notices.new }
         ensures history { self.new.history ≡ with_entry self.old.history actor.old.number event.now result }
         ensures actors { self.new.actors ≡ self.old.actors }
-        ensures actor { actor.new ≡ with_call actor.old event.now result }
+        ensures actor { actor.new ≡ with_call actor.old event.now result notices.new }
+        ensures own { calls_by actor.old.number S.start self.old.history ≡ actor.old.calls }
     {
         fits(event);
         self.board.facts();
         let reply = self.board.perform(event, notices);
         // README ghost_history: begin
-        let number = actor.number();
-        let none = History::new();
-        let one = none.with(number, event, &reply);
-        let history = self.history.with(number, event, &reply);
-        self.history = history;
+        self.history = self.history.with(actor.number(), event, &reply);
+        let one = Answered {
+            event: Snapshot::of(event),
+            reply: Snapshot::of(&reply),
+            notices: Snapshot::of(notices),
+        };
         self.roster.extend(&mut actor.part, &one);
         // README ghost_history: end
         reply
@@ -138,7 +140,8 @@ impl<S: Sharing> LockedBoard<S> {
         ensures history { self.new.history
             ≡ with_entry self.old.history actor.old.number (Absorb vp part result.0) result.1 }
         ensures actors { self.new.actors ≡ self.old.actors }
-        ensures actor { actor.new ≡ with_call actor.old (Absorb vp part result.0) result.1 }
+        ensures actor { actor.new ≡ with_call actor.old (Absorb vp part result.0) result.1 notices.new }
+        ensures own { calls_by actor.old.number S.start self.old.history ≡ actor.old.calls }
         ensures swept { sweeper.new
             ≡ token sweeper.old.of (sweep_in (Absorb vp part result.0) result.1 ++ sweeper.old.actions) }
         ensures refused { is_refusal result.1 ≡ true → result.0 ≡ 0 }
@@ -175,7 +178,7 @@ impl<S: Sharing> LockedBoard<S> {
     /// The calls of each of these actors are its own in the history. Changes nothing.
     fn find_all(&mut self, actors: &mut [Actor<S>])
         ensures same { (self.new ≡ self.old) × (actors.new ≡ actors.old) }
-        ensures own { All (λ a. calls_by a.number self.old.history ≡ a.calls) actors.old }
+        ensures own { All (λ a. calls_by a.number S.start self.old.history ≡ a.calls) actors.old }
     {
         for index in 0..actors.len() {
             self.find(&mut actors[index]);
@@ -185,9 +188,9 @@ impl<S: Sharing> LockedBoard<S> {
     /// The calls of an actor are its own in the history. Changes nothing.
     fn find(&mut self, actor: &mut Actor<S>)
         ensures same { (self.new ≡ self.old) × (actor.new ≡ actor.old) }
-        ensures own { calls_by actor.old.number self.old.history ≡ actor.old.calls }
+        ensures own { calls_by actor.old.number S.start self.old.history ≡ actor.old.calls }
     {
-        self.roster.extend(&mut actor.part, &History::new());
+        self.roster.find(&mut actor.part);
     }
 }
 

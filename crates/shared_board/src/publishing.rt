@@ -7,7 +7,7 @@ ghost use Rattle.synic_board.specs.State.{processors};
 ghost use Rattle.synic_board.specs.Performing.{Performs};
 ghost use Rattle.synic_board.specs.declared.event.Event.TheVariants.{Absorb};
 ghost use Rattle.actor_calls.specs.Sweeps.{is_refusal, sweep_in};
-ghost use Rattle.shared_board.specs.Calling.{calling, with_call};
+ghost use Rattle.shared_board.specs.Calling.{calling, calls_by, with_call};
 ghost use Rattle.shared_board.specs.Witnessed.{witnessed, with_entry, IsOneThread, IsEnded};
 ghost use Rattle.shared_board.specs.Publishing.{publishing};
 
@@ -93,7 +93,8 @@ impl<S: Watching> PublishingBoard<S> {
         ensures history { self.new.shared.history
             ≡ with_entry self.old.shared.history actor.old.number event.now result }
         ensures actors { self.new.shared.actors ≡ self.old.shared.actors }
-        ensures actor { actor.new ≡ with_call actor.old event.now result }
+        ensures actor { actor.new ≡ with_call actor.old event.now result notices.new }
+        ensures own { calls_by actor.old.number S.start self.old.shared.history ≡ actor.old.calls }
         ensures stored { IsStored S.start self.new.shared.history self.old.logs self.new.logs }
     {
         let reply = self.locked.perform(actor, event, notices);
@@ -123,7 +124,8 @@ impl<S: Watching> PublishingBoard<S> {
         ensures history { self.new.shared.history
             ≡ with_entry self.old.shared.history actor.old.number (Absorb vp part result.0) result.1 }
         ensures actors { self.new.shared.actors ≡ self.old.shared.actors }
-        ensures actor { actor.new ≡ with_call actor.old (Absorb vp part result.0) result.1 }
+        ensures actor { actor.new ≡ with_call actor.old (Absorb vp part result.0) result.1 notices.new }
+        ensures own { calls_by actor.old.number S.start self.old.shared.history ≡ actor.old.calls }
         ensures swept { sweeper.new
             ≡ token sweeper.old.of (sweep_in (Absorb vp part result.0) result.1 ++ sweeper.old.actions) }
         ensures refused { is_refusal result.1 ≡ true → result.0 ≡ 0 }

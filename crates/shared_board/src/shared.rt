@@ -68,8 +68,8 @@ impl<S: Sharing> SharedBoard<S> {
         event: &Event,
         notices: &mut Notices,
     ) -> Reply
-        ensures actor { actor.new ≡ with_call actor.old event.now result }
-        ensures answered { IsAnswered S.start event.now result notices.new }
+        ensures actor { actor.new ≡ with_call actor.old event.now result notices.new }
+        ensures answered { IsAnswered S.start actor.old event.now result notices.new }
     {
         let mut guard = self.locked.lock(rt);
         let locked = &mut *guard;
@@ -91,11 +91,11 @@ impl<S: Sharing> SharedBoard<S> {
     ) -> (u64, Reply)
         requires own { sweeper.old.of ≡ words.now.name }
         requires processors { words.now.processors ≡ processors S.start }
-        ensures actor { actor.new ≡ with_call actor.old (Absorb vp part result.0) result.1 }
+        ensures actor { actor.new ≡ with_call actor.old (Absorb vp part result.0) result.1 notices.new }
         ensures swept { sweeper.new
             ≡ token sweeper.old.of (sweep_in (Absorb vp part result.0) result.1 ++ sweeper.old.actions) }
         ensures refused { is_refusal result.1 ≡ true → result.0 ≡ 0 }
-        ensures answered { IsAnswered S.start (Absorb vp part result.0) result.1 notices.new }
+        ensures answered { IsAnswered S.start actor.old (Absorb vp part result.0) result.1 notices.new }
     {
         let mut guard = self.locked.lock(rt);
         let locked = &mut *guard;

@@ -83,9 +83,9 @@ impl<S: Watching> WatchedBoard<S> {
         event: &Event,
         notices: &mut Notices,
     ) -> (Reply, Checkpoint)
-        ensures actor { actor.new ≡ with_call actor.old event.now result.0 }
+        ensures actor { actor.new ≡ with_call actor.old event.now result.0 notices.new }
         ensures after { IsAfter (words_of S.table S.start) actor.old.number event.now result.0 result.1 }
-        ensures answered { IsAnswered S.start event.now result.0 notices.new }
+        ensures answered { IsAnswered S.start actor.old event.now result.0 notices.new }
     {
         let mut guard = self.locked.lock(rt);
         let locked = &mut *guard;
@@ -109,13 +109,13 @@ impl<S: Watching> WatchedBoard<S> {
     ) -> (u64, Reply, Checkpoint)
         requires own { sweeper.old.of ≡ posted.now.name }
         requires processors { posted.now.processors ≡ processors S.start }
-        ensures actor { actor.new ≡ with_call actor.old (Absorb vp part result.0) result.1 }
+        ensures actor { actor.new ≡ with_call actor.old (Absorb vp part result.0) result.1 notices.new }
         ensures swept { sweeper.new
             ≡ token sweeper.old.of (sweep_in (Absorb vp part result.0) result.1 ++ sweeper.old.actions) }
         ensures refused { is_refusal result.1 ≡ true → result.0 ≡ 0 }
         ensures after { IsAfter (words_of S.table S.start) actor.old.number
             (Absorb vp part result.0) result.1 result.2 }
-        ensures answered { IsAnswered S.start (Absorb vp part result.0) result.1 notices.new }
+        ensures answered { IsAnswered S.start actor.old (Absorb vp part result.0) result.1 notices.new }
     {
         let mut guard = self.locked.lock(rt);
         let locked = &mut *guard;

@@ -1,5 +1,5 @@
 -- Each write of a timer, and each expiry, leaves it sound.
-use Rattle.std.proofs.Common.{◌≡◌, ℕ, ◌+◌, ◌-◌, ◌/◌, ◌%◌, ◌^◌, ◌≤◌, Bool, true, false, not, nat_le, refl, sym, ap, ◌∙◌, arith}
+use Rattle.std.proofs.Common.{◌≡◌, ℕ, ◌+◌, ◌-◌, ◌/◌, ◌%◌, ◌^◌, ◌<◌, ◌≤◌, Bool, true, false, not, nat_le, refl, sym, ap, ◌∙◌, arith}
 use Rattle.std.specs.Prelude.{Option, None, Some, ◌==◌, ◌||◌, bit_and, if◌then◌else◌}
 use Rattle.std.specs.Option.{option_map_or, unwrap_or}
 use Rattle.std.proofs.lemmas.Bool.Decides.{nat_tests}
@@ -189,9 +189,9 @@ near-expired x moment d due sound periodic is = by (is_periodic x.config) refl
 pub aimed-due : (x : Timer) (moment : ℕ) → is_due x moment ≡ true → IsSoundTimer x → has_no_target x.config ≡ false
 aimed-due x moment due sound = let p = past x moment due in sound.normalized.heard (sound.enabled p.0 p.1)
 
--- an expiry signals a deadline that has passed
+-- an expiry signals a deadline that has passed, and none is at 0
 pub signals-past : (x : Timer) (moment : ℕ) → is_due x moment ≡ true → IsSoundTimer x → (d : ℕ)
-    → (after_expiry x moment).1.signal ≡ Some d → d ≤ moment
+    → (after_expiry x moment).1.signal ≡ Some d → (0 < d) × (d ≤ moment)
 signals-past x moment due sound d is = by (is_periodic x.config) refl
   where
     p : IsPast x moment
@@ -200,9 +200,14 @@ signals-past x moment due sound d is = by (is_periodic x.config) refl
     at : (expired x p.0 moment).signal ≡ Some d
     at = ap (λ o. (expired x (unwrap_or o 0) moment).signal) (sym p.1) ∙ is
 
-    by : (b : Bool) → is_periodic x.config ≡ b → d ≤ moment
-    by true periodic = ((accounts x p.0 moment periodic (sound.some p.0 p.1) p.2).past d at).1
+    counted : 0 < x.count
+    counted = sound.some p.0 p.1
+
+    by : (b : Bool) → is_periodic x.config ≡ b → (0 < d) × (d ≤ moment)
+    by true periodic =
+        let between = (accounts x p.0 moment periodic counted p.2).past d at in
+        (omega (arith, counted, sound.period p.0 p.1 periodic, between.0), between.1)
     by false single =
         let same : p.0 ≡ d =
         same_Some _ _ (sym (ap (λ (e : Expired). e.signal) (expired-once x p.0 moment single)) ∙ at) in
-        omega (arith, same, p.2)
+        (omega (arith, counted, sound.once p.0 p.1 single, same), omega (arith, same, p.2))

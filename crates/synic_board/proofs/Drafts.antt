@@ -6,7 +6,7 @@ use Rattle.std.specs.Option.{option_map_or}
 use Rattle.std.proofs.lemmas.Bool.{cases_eq}
 use Rattle.std.proofs.lemmas.Bool.Decides.{nat_tests}
 use Rattle.std.proofs.lemmas.List.{get_or-set_other}
-use Rattle.std.proofs.lemmas.List.Elements.{All-set, All-append, All-push, All-cons, All-nil, All-head, All-tail}
+use Rattle.std.proofs.lemmas.List.Elements.{All-set, All-append, All-push, All-cons, All-nil, All-head, All-tail, All-weaker}
 use Rattle.std.proofs.lemmas.List.Sums.{sum_by-set, sum_by-cons, sum_by_push}
 use Rattle.board_terms.specs.declared.messages.Message.{Message}
 use Rattle.board_terms.specs.declared.messages.PortShape.TheVariants.{Messages}
@@ -52,8 +52,8 @@ use Rattle.synic_board.proofs.keeping.Posts.{keeps-opened_port}
 use Rattle.synic_board.proofs.keeping.Stores.{own-whole, own-other, length-overwritten}
 use Rattle.synic_board.proofs.keeping.Slots.{other_place}
 use Rattle.synic_board.proofs.keeping.Placements.{queue-good}
-use Rattle.synic_board.proofs.keeping.Uses.{unmoved, alike, Fits, port-fits, timer-fits, buffers-joined}
-use Rattle.synic_board.proofs.keeping.Timed.{ascends-push, timed-same, timed-moment, timed-queue, timed-timer}
+use Rattle.synic_board.proofs.keeping.Uses.{unmoved, Fits, port-fits, timer-fits, buffers-joined}
+use Rattle.synic_board.proofs.keeping.Timed.{ascends-push, precedes-push, timed-same, timed-moment, timed-queue, timed-slot, timed-timer}
 use Rattle.synic_board.proofs.keeping.Opened.{sound-opened, no-locations}
 use Rattle.synic_board.proofs.keeping.Buffers.{buffers-opened, buffers-opened_port}
 use Rattle.synic_board.proofs.keeping.Settled.{settled-same, settled-processor, settled-timer, settled-step, settled-opened}
@@ -99,7 +99,7 @@ draft-processor s p a tickets on h =
     let marked = bank_with_suspension (bank_of s) p a.suspended in
     draft-still s (with_processor s p a) tickets (kept-bank n (with_apic s p a) marked h.sound.whole.timers first)
     (record { queues = refl; slots = refl; next = refl }) refl
-    (timed-same s (with_processor s p a) refl refl refl refl h.buffers.timed)
+    (timed-same s (with_processor s p a) refl refl refl refl refl h.buffers.timed)
     (settled-processor s p a on h.settled) h
 
 pub draft-timer : (s : State) (t : ℕ × ℕ) (x : Timer) (tickets : List ℕ) → t.0 < processors s → t.1 < 4 → MayCount s x
@@ -114,7 +114,7 @@ pub draft-regs : (s : State) (p : ℕ) (r : Regs) (tickets : List ℕ) → IsDra
 draft-regs s p r tickets h =
     draft-still s (with_regs s p r) tickets (kept-regs (processors s) s p r (kept_from_sound s h.sound))
     (record { queues = refl; slots = refl; next = refl }) refl
-    (timed-same s (with_regs s p r) refl refl refl refl h.buffers.timed)
+    (timed-same s (with_regs s p r) refl refl refl refl refl h.buffers.timed)
     (settled-same s _ refl refl refl h.settled) h
 
 pub draft-stored : (s : State) (p : ℕ) (r : Register) (value : ℕ) (tickets : List ℕ) → IsDraft s tickets
@@ -180,7 +180,7 @@ draft-guest s page at bytes tickets h =
       };
       empty = whole.empty;
     }) (record { queues = refl; slots = refl; next = refl }) refl
-    (timed-same s (with_guest_bytes s page at bytes) refl refl refl refl h.buffers.timed)
+    (timed-same s (with_guest_bytes s page at bytes) refl refl refl refl refl h.buffers.timed)
     (settled-same s _ refl refl refl h.settled) h
 
 pub draft-own : (s : State) (p : ℕ) (kind : Kind) (at : ℕ) (bytes : List ℕ) (tickets : List ℕ) → p < processors s
@@ -192,7 +192,7 @@ draft-own s p kind at bytes tickets below fits none h =
       whole = own-whole n s k page whole.whole long;
       empty = λ q j within inside. free q j within inside (cases_eq q p);
     }) (record { queues = refl; slots = refl; next = refl }) refl
-    (timed-same s (with_own_bytes s p kind at bytes) refl refl refl refl h.buffers.timed)
+    (timed-same s (with_own_bytes s p kind at bytes) refl refl refl refl refl h.buffers.timed)
     (settled-same s _ refl refl refl h.settled) h
   where
     n : ℕ
@@ -325,9 +325,11 @@ draft-message s p i m tickets below under may h = record {
     place = omega (arith, under)
 
     timed : IsTimed now
-    timed = timed-queue s now (source_number p i) q refl refl refl refl
+    timed = timed-queue s now (source_number p i) q refl refl refl refl refl
         (ascends-push s.next_ticket (queue_of s.queues p i) m may.order may.ticket.given
         (h.buffers.timed.order (source_number p i)))
+        (precedes-push s.next_ticket (slot_of s p i) (queue_of s.queues p i) m may.behind
+        (h.buffers.timed.ahead (source_number p i)))
         (All-push (HasExpired s.moment (source_number p i % 16)) (queue_of s.queues p i) m
         (h.buffers.timed.timely (source_number p i))
         (subst (λ k. HasExpired s.moment k m) (sym place) may.time)) h.buffers.timed
@@ -364,7 +366,8 @@ pub draft-ticket : (s : State) (p i x : ℕ) (tickets : List ℕ) → p < proces
     → IsDraft s tickets → IsDraft (with_slot_ticket s p i (Some x)) (tickets ++ x ∷ [])
 draft-ticket s p i x tickets below under may h = record {
   sound = sound_from_kept n now intact (tickets-joined s now x refl may.ticket moved h.sound.tickets);
-  buffers = alike s now refl refl refl refl refl h.buffers;
+  buffers = unmoved s now refl refl
+      (timed-slot s (source_number p i) (Some x) (may.ticket.given, may.ahead) h.buffers.timed) h.buffers;
   settled = settled-same s now refl refl refl h.settled;
   listed = listed-joined s now tickets x moved h.listed;
 }
@@ -473,4 +476,20 @@ in-order next (x ∷ y ∷ q) h o is t =
           let second = All-head (λ z. ticket_of z < t) y q all in
           All-cons (λ z. ticket_of z < t) x (y ∷ q) (omega (arith, before, second)) all,
       λ all. rest.1 (All-tail (λ z. ticket_of z < t) x (y ∷ q) all),
+    )
+
+-- and the first one the least
+pub in-front : (next : ℕ) (q : List Message) → Ascends next q → (o : Option Message) → slice_get q 0 ≡ o → (t : ℕ)
+    → IsTrue (option_map_or (λ m. nat_lt t (ticket_of m)) o true) ↔ All (λ x. t < ticket_of x) q
+in-front next [] h None is t = (λ _. All-nil (λ x. t < ticket_of x), λ _. refl)
+in-front next [] h (Some m) is t = absurd (cc)
+in-front next (x ∷ q) h None is t = absurd (cc)
+in-front next (x ∷ q) h (Some m) is t =
+    let same : ticket_of x ≡ ticket_of m = ap (λ (o : Option Message). option_map_or ticket_of o 0) is in (
+      λ low.
+          let before : t < ticket_of x = grind (arith, nat_tests, same, low) in
+          All-cons (λ x. t < ticket_of x) x q before
+          (All-weaker (λ y. ticket_of x < ticket_of y) (λ y. t < ticket_of y)
+          (λ y more. omega (arith, before, more)) q h.1),
+      λ all. let first = All-head (λ x. t < ticket_of x) x q all in grind (arith, nat_tests, same, first),
     )

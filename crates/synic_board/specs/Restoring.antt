@@ -74,7 +74,7 @@ pub record MayCount (s : State) (x : Timer) : Type 0 where
   pub sound : IsSoundTimer x
   pub near : IsNear s.moment x
 
--- a message can be queued at source i of processor p, after those that are there
+-- a message can be queued at source i of processor p, after those that are there and the one in the slot
 pub record MayJoin (s : State) (p : Processor) (i : Source) (m : Message) : Type 0 where
   pub message : IsMessage m
   pub home : IsHome s.ports p i m
@@ -82,10 +82,12 @@ pub record MayJoin (s : State) (p : Processor) (i : Source) (m : Message) : Type
   pub share : IsWithinShare s m
   pub ticket : IsUnplaced s (ticket_of m)
   pub order : All (λ x. ticket_of x < ticket_of m) (queue_of s.queues p i)
+  pub behind : (t : ℕ) → slot_of s p i ≡ Some t → t < ticket_of m
   pub time : HasExpired s.moment i m
 
--- a slot can hold a ticket: it holds a message, and no ticket yet
+-- a slot can hold a ticket: it holds a message, no ticket yet, and those that wait for it are younger
 pub record MayOccupy (s : State) (p : Processor) (i : Source) (t : Ticket) : Type 0 where
   pub occupied : is_slot_empty s p i ≡ false
   pub free : slot_of s p i ≡ None
+  pub ahead : All (λ m. t < ticket_of m) (queue_of s.queues p i)
   pub ticket : IsUnplaced s t

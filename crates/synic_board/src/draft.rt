@@ -1,5 +1,5 @@
 // A board that is being restored.
-ghost use Rattle.std.specs.Prelude.{◌≡◌, ◌≢◌, ◌↔◌, ◌<◌, ◌≤◌, ◌+◌, IsTrue, IfOk, OnErr, IsErrOf, Some, [], length, if◌then◌else◌};
+ghost use Rattle.std.specs.Prelude.{ℕ, ◌≡◌, ◌≢◌, ◌↔◌, ◌<◌, ◌≤◌, ◌+◌, IsTrue, IfOk, OnErr, IsErrOf, Some, [], length, if◌then◌else◌};
 ghost use Rattle.std.specs.List.{All};
 ghost use Rattle.board_terms.specs.Messages.{ticket_of};
 ghost use Rattle.message_queues.specs.Queues.{queue_of};
@@ -8,7 +8,7 @@ ghost use Rattle.synic_regs.specs.Regs.{after_write, with_value};
 ghost use Rattle.synic_regs.specs.declared.register.Register.TheVariants as register;
 ghost use Rattle.event_ports.specs.Ports.{is_posted_type};
 ghost use Rattle.synic_board.specs.Registers.{stored};
-ghost use Rattle.synic_board.specs.State.{IsWithinLimits, opened, processors, regs_of, with_regs, with_slot_ticket};
+ghost use Rattle.synic_board.specs.State.{IsWithinLimits, opened, processors, regs_of, slot_of, with_regs, with_slot_ticket};
 ghost use Rattle.synic_board.specs.Posts.{opened_port};
 ghost use Rattle.synic_board.specs.Timers.{at_moment};
 ghost use Rattle.synic_board.specs.Sound.{IsMessage};
@@ -225,7 +225,11 @@ impl Draft {
         if !self.machine.has_buffer(message) || !is_timely(self.machine.moment(), sint, message) {
             return false;
         }
-        self.is_in_order(vp, sint, message.ticket()) && self.is_unplaced(message.ticket())
+        let ticket = message.ticket();
+        if !self.is_in_order(vp, sint, ticket) {
+            return false;
+        }
+        self.is_behind_slot(vp, sint, ticket) && self.is_unplaced(ticket)
     }
 
     /// Whether a ticket is greater than those of all messages in a queue.
@@ -235,6 +239,28 @@ impl Draft {
     {
         match self.machine.last_message(vp, sint) {
             Some(last) => last.ticket() < ticket,
+            None => true,
+        }
+    }
+
+    /// Whether a ticket is greater than the one in a slot, if it holds one.
+    fn is_behind_slot(&self, vp: Vp, sint: Sint, ticket: Ticket) -> bool
+        requires { vp < processors self.now }
+        ensures { IsTrue result ↔ ((t : ℕ) → slot_of self.now vp sint ≡ Some t → t < ticket) }
+    {
+        match self.machine.slot_ticket(vp, sint) {
+            Some(first) => first < ticket,
+            None => true,
+        }
+    }
+
+    /// Whether a ticket is less than those of all messages in a queue.
+    fn is_before_queue(&self, vp: Vp, sint: Sint, ticket: Ticket) -> bool
+        requires { vp < processors self.now }
+        ensures { IsTrue result ↔ All (λ x. ticket < ticket_of x) (queue_of self.now.queues vp sint) }
+    {
+        match self.machine.first_message(vp, sint) {
+            Some(first) => ticket < first.ticket(),
             None => true,
         }
     }
@@ -277,7 +303,8 @@ impl Draft {
         ensures { IsTrue result ↔ MayOccupy self.now vp sint ticket }
     {
         !self.machine.is_slot_empty(vp, sint)
-            && !self.machine.has_ticket(vp, sint)
+            && self.machine.slot_ticket(vp, sint).is_none()
+            && self.is_before_queue(vp, sint, ticket)
             && self.is_unplaced(ticket)
     }
 
@@ -313,7 +340,9 @@ fn is_timely(moment: Moment, sint: Sint, message: &Message) -> bool
 {
     match message {
         Message::FromPort { .. } => true,
-        Message::FromTimer { expiration, .. } => sint.number() > 0 && *expiration <= moment,
+        Message::FromTimer { expiration, .. } => {
+            sint.number() > 0 && *expiration > 0 && *expiration <= moment
+        }
     }
 }
 

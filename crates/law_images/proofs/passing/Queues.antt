@@ -20,7 +20,7 @@ use Rattle.synic_board.specs.Sound.{IsMessage}
 use Rattle.synic_board.specs.Timed.{Ascends, HasExpired}
 use Rattle.synic_board.specs.Buffers.{IsHome}
 use Rattle.synic_board.specs.Restoring.{IsWithinShare, MayJoin}
-use Rattle.synic_board.proofs.keeping.Counts.{one, in_queue, in_queues, in_slots, in_queue-cons, times-locations}
+use Rattle.synic_board.proofs.keeping.Counts.{one, in_queue, in_queues, in_slot, in_slots, in_queue-cons, times-locations}
 use Rattle.synic_board.proofs.keeping.Emptied.{port-below}
 use Rattle.text_image.specs.declared.piece.Piece.TheVariants as pieces
 use Rattle.text_image.specs.Image.{each_below, message_fields, queue_lines, queues_lines, queued_lines}
@@ -168,6 +168,17 @@ has-share s h j k (FromPort ticket port kind payload) inside g now queues ports 
     )
 has-share s h j k (FromTimer ticket timer expiration) inside g now queues ports = tt
 
+-- a ticket in a slot is counted
+counted-slot : (x k : ℕ) (slots : List (Option ℕ)) → get_or slots k None ≡ Some x → 1 ≤ in_slots x slots
+counted-slot x k slots is = split (cases_lt k (length slots))
+  where
+    split : (k < length slots) ⊎ (length slots ≤ k) → 1 ≤ in_slots x slots
+    split (inl inside) =
+        let one : in_slot x (get_or slots k None) ≡ 1 =
+        ap (in_slot x) is ∙ ap (λ (b : Bool). cond b 1 0) (test-same x) in
+        omega (arith, one, sum_by_more_le (in_slot x) slots k None inside)
+    split (inr past) = let none : get_or slots k None ≡ None = get_or-eq_default slots None past in absurd (cc)
+
 module _ (s : State) (h : IsBoardState s) (t : State) (full : processors t ≡ processors s)
     (same_ports : t.ports ≡ s.ports) (next : t.next_ticket ≡ s.next_ticket)
     (no_slots : (x : ℕ) → in_slots x t.slots ≡ 0)
@@ -187,6 +198,7 @@ module _ (s : State) (h : IsBoardState s) (t : State) (full : processors t ≡ p
     ticket = record { given = given; nowhere = nowhere };
     order = subst (λ (xs : List Message). All (λ x. ticket_of x < ticket_of m) xs) (sym drafted_queue)
         (before-all s.next_ticket (get_or s.queues j []) k m g.within (g.is m) (h.buffers.timed.order j));
+    behind = λ x is. absurd (omega (arith, counted-slot x j t.slots is, no_slots x));
     time = subst (λ n. HasExpired n i m) (sym same_time)
         (subst (λ n. HasExpired s.moment n m) source
         (subst (HasExpired s.moment (j % 16)) (g.is m) (h.buffers.timed.timely j k m g.within)));

@@ -1,14 +1,18 @@
 -- The tickets in the slots.
-use Rattle.std.proofs.Common.{◌≡◌, ◌⊎◌, inl, inr, ℕ, suc, ◌+◌, ◌*◌, ◌<◌, ◌≤◌, Bool, true, false, List, [], cond, length, get_or, set, replicate, refl, sym, ap, ◌∙◌, arith}
+use Rattle.std.proofs.Common.{◌≡◌, ◌⊎◌, inl, inr, ℕ, suc, ◌+◌, ◌*◌, ◌<◌, ◌≤◌, Bool, true, false, List, [], cond, length, get_or, set, replicate, refl, sym, ap, subst, ◌∙◌, arith}
 use Rattle.std.specs.Prelude.{◌==◌, Option, None, Some}
 use Rattle.std.proofs.lemmas.Bool.{cases_lt}
+use Rattle.std.specs.List.{All}
+use Rattle.board_terms.specs.Messages.{ticket_of}
 use Rattle.board_terms.specs.declared.pages.Kind.TheVariants.{Sim}
 use Rattle.gpa_space.specs.Space.{own_page}
 use Rattle.message_queues.specs.Image.{slot_type}
+use Rattle.message_queues.specs.Queues.{queue_of}
 use Rattle.synic_board.specs.Delivery.{is_slot_empty}
 use Rattle.synic_board.specs.Locations.{times, locations}
 use Rattle.synic_board.specs.Restoring.{MayOccupy}
 use Rattle.synic_board.specs.State.{State, processors, slot_of, space_of}
+use Rattle.synic_board.specs.Timed.{Precedes}
 use Rattle.synic_board.proofs.keeping.Counts.{in_slot, in_queues, in_slots, times-locations}
 use Rattle.text_image.specs.declared.piece.Piece.TheVariants as pieces
 use Rattle.text_image.specs.Image.{each_below, slot_line, slot_lines, slots_lines}
@@ -67,10 +71,17 @@ module _ (s : State) (h : IsBoardState s) (t : State) (full : processors t ≡ p
             absurd (cc)
         by false e = refl
 
+    first : (o : Option ℕ) → o ≡ Some x → Precedes s.next_ticket o (queue_of s.queues p i)
+        → All (λ m. x < ticket_of m) (queue_of s.queues p i)
+    first None e before = absurd (cc)
+    first (Some y) e before =
+        let same : y ≡ x = cc in subst (λ n. All (λ m. n < ticket_of m) (queue_of s.queues p i)) same before.1
+
     occupies : MayOccupy board p i x
     occupies = record {
       occupied = occupied;
       free = front-new j j s.slots None None (omega arith) inside;
+      ahead = subst (λ qs. All (λ m. x < ticket_of m) (queue_of qs p i)) (sym queues) (first (slot_of s p i) is (h.buffers.timed.ahead j));
       ticket = record { given = omega (arith, given, next); nowhere = nowhere };
     }
 

@@ -19,26 +19,26 @@ use Rattle.board_terms.specs.Dues.{number_of}
 use Rattle.board_terms.specs.Messages.{ticket_of}
 use Rattle.stimer_bank.specs.declared.timer.Mode.{Mode}
 use Rattle.stimer_bank.specs.declared.timer.Mode.TheVariants.{Direct, Posted}
-use Rattle.synic_board.specs.State.{State, apic_of, regs_of, bank_of}
+use Rattle.synic_board.specs.State.{State, apic_of, regs_of, bank_of, with_slot_ticket}
 use Rattle.synic_board.specs.Effects.{Effect, nothing}
 use Rattle.synic_board.specs.Interrupts.{requested, raised}
 use Rattle.synic_board.specs.Absorbing.{is_posted, absorbed_below}
 use Rattle.synic_board.specs.Sending.{sent_below}
-use Rattle.synic_board.specs.Delivery.{delivers, is_slot_empty, placed_head, placed, tried, tried_below, accepted, delivered}
+use Rattle.synic_board.specs.Delivery.{delivers, is_slot_empty, with_messages, placed_state, placed_head, placed, tried, tried_below, accepted, delivered}
 use Rattle.synic_board.specs.Posts.{are_tickets_left}
 use Rattle.synic_board.specs.Timers.{mode_at, is_ready_for, is_ready, delivery_by, signalled_by, expired_state, expiry_at, attempted, attempted_until}
-use Rattle.synic_board.specs.Timed.{HasExpired}
+use Rattle.synic_board.specs.Timed.{Ascends, HasExpired}
 use Rattle.synic_board.specs.Buffers.{HasBuffers}
 use Rattle.synic_board.proofs.keeping.Requests.{either}
 use Rattle.synic_board.proofs.keeping.Clocks.{Names, mode-names}
-use Rattle.synic_board.proofs.keeping.Timed.{timed-accepted, timed-expired}
+use Rattle.synic_board.proofs.keeping.Timed.{precedes-placed, timed-same, timed-slot, timed-accepted, timed-expired}
 use Rattle.synic_board.proofs.keeping.Uses.{unmoved, alike, fewer-queued, IsPart, part-rest, Fits, timer-fits, buffers-joined}
 
 -- vectors
 pub buffers-requested : (s : State) (p v : ℕ) → HasBuffers s → HasBuffers (requested s p v).0
 buffers-requested s p v h =
     either (λ (e : Effect). HasBuffers e.0) (finset.contains (apic_of s p).requested v) _ _ (λ _. h)
-    (λ _. alike s _ refl refl refl refl refl h)
+    (λ _. alike s _ refl refl refl refl refl refl h)
 
 pub buffers-raised : (s : State) (p i : ℕ) → HasBuffers s → HasBuffers (raised s p i).0
 buffers-raised s p i h =
@@ -71,15 +71,22 @@ buffers-placed s p i h = go (queue_of s.queues p i) refl
     go : (q : List Message) → queue_of s.queues p i ≡ q → HasBuffers (placed_head s p i q).0
     go [] is = h
     go (m ∷ rest) is =
-        fewer-queued s _ (source_number p i) rest refl refl refl refl refl
-        (subst (IsPart rest) (sym is) (part-rest m rest)) h
+        let middle : State = with_messages s p i rest in
+        let fewer = fewer-queued s middle (source_number p i) rest refl refl refl refl refl refl
+        (subst (IsPart rest) (sym is) (part-rest m rest)) h in
+        let first = precedes-placed s.next_ticket s.queues (source_number p i) m rest
+        (subst (Ascends s.next_ticket) is (h.timed.order (source_number p i))) in
+        let held : State = with_slot_ticket middle p i (Some (ticket_of m)) in
+        let timed = timed-slot middle (source_number p i) (Some (ticket_of m)) first fewer.timed in
+        unmoved middle (placed_state s p i m rest) refl refl
+        (timed-same held (placed_state s p i m rest) refl refl refl refl refl timed) fewer
 
 buffers-tried : (s : State) (p i : ℕ) → HasBuffers s → HasBuffers (tried s p i).0
 unfolding tried
 buffers-tried s p i h =
     either (λ (e : Effect). HasBuffers e.0) (delivers s p && nat_lt 0 (length (queue_of s.queues p i))) _ _
     (λ _. either (λ (e : Effect). HasBuffers e.0) (is_slot_empty s p i) _ _
-    (λ _. buffers-raised (placed s p i).0 p i (buffers-placed s p i h)) (λ _. alike s _ refl refl refl refl refl h))
+    (λ _. buffers-raised (placed s p i).0 p i (buffers-placed s p i h)) (λ _. alike s _ refl refl refl refl refl refl h))
     (λ _. h)
 
 pub buffers-tried_below : (s : State) (p n : ℕ) → HasBuffers s → HasBuffers (tried_below s p n).0
@@ -127,15 +134,15 @@ ready-to s t (Posted i) true e =
     middle-of (has (regs_of s t.0).control enable) (is_timer_free s.queues t) (are_tickets_left s) e
 ready-to s t (Posted i) false e = absurd (cc)
 
-buffers-emitted : (s : State) (t : ℕ × ℕ) (mode : Mode) (d : ℕ) → t.1 < 4 → Names mode → IsAimed mode → d ≤ s.moment
+buffers-emitted : (s : State) (t : ℕ × ℕ) (mode : Mode) (d : ℕ) → t.1 < 4 → Names mode → IsAimed mode → (0 < d) × (d ≤ s.moment)
     → IsReadyTo s t mode → HasBuffers s → HasBuffers (delivery_by s t mode d).0
 buffers-emitted s t (Direct v) d index names aimed past ready h = buffers-requested s t.0 v h
 buffers-emitted s t (Posted i) d index names aimed past ready h =
     buffers-delivered s t.0 i (FromTimer s.next_ticket t d) names
-    (timer-fits s t i s.next_ticket d names index ready) refl (aimed, past) h
+    (timer-fits s t i s.next_ticket d names index ready) refl (aimed, past.0, past.1) h
 
 buffers-signalled : (s : State) (t : ℕ × ℕ) (mode : Mode) (o : Option ℕ) → t.1 < 4 → Names mode → IsAimed mode
-    → ((d : ℕ) → o ≡ Some d → d ≤ s.moment) → IsReadyTo s t mode → HasBuffers s →
+    → ((d : ℕ) → o ≡ Some d → (0 < d) × (d ≤ s.moment)) → IsReadyTo s t mode → HasBuffers s →
     HasBuffers (signalled_by s t mode o).0
 buffers-signalled s t mode None index names aimed past ready h = h
 buffers-signalled s t mode (Some d) index names aimed past ready h =

@@ -11,6 +11,7 @@ use Rattle.std.proofs.lemmas.List.Sums.{sum_by-set, sum_by-cons, sum_by_push}
 use Rattle.arrayvec.specs.ArrayVec.{ArrayVec}
 use Rattle.board_terms.specs.declared.messages.Message.{Message}
 use Rattle.board_terms.specs.declared.messages.Message.TheVariants.{FromPort, FromTimer}
+use Rattle.board_terms.specs.Messages.{ticket_of}
 use Rattle.board_terms.specs.Sources.{source_number}
 use Rattle.message_queues.specs.Queues.{Queues, processors_of, most_ports, is_from_port, is_from_timer, port_used, timer_used, is_timer_free, queue_of, left_of, appended}
 use Rattle.board_terms.specs.declared.messages.PortShape.TheVariants.{Messages}
@@ -21,10 +22,10 @@ use Rattle.event_ports.specs.Shapes.{buffers_of}
 use Rattle.synic_board.specs.Effects.{Effect, nothing}
 use Rattle.synic_board.specs.Delivery.{accepted}
 use Rattle.synic_board.specs.Resetting.{withdrawn_ticket, slot_emptied, queue_emptied, emptied_below}
-use Rattle.synic_board.specs.Timed.{Ascends, HasExpired, IsTimed}
+use Rattle.synic_board.specs.Timed.{Ascends, Precedes, HasExpired, IsTimed}
 use Rattle.synic_board.specs.Buffers.{SendsTo, IsHome, HasBuffers}
 use Rattle.synic_board.proofs.keeping.Requests.{either}
-use Rattle.synic_board.proofs.keeping.Timed.{ascends-left, timed-same, timed-queue}
+use Rattle.synic_board.proofs.keeping.Timed.{ascends-left, timed-same, timed-queue, timed-slot}
 
 -- the same queues and ports
 pub unmoved : (s now : State) → now.queues ≡ s.queues → now.ports ≡ s.ports → IsTimed now → HasBuffers s
@@ -46,11 +47,11 @@ unmoved s now queues ports timed h = record {
   sources = λ k p e. h.sources k p (ap (λ xs. slice_index_or xs k None) (sym ports) ∙ e);
 }
 
--- and the same tickets, time and timers
+-- and the same tickets, time, timers and slots
 pub alike : (s now : State) → now.queues ≡ s.queues → now.ports ≡ s.ports → now.next_ticket ≡ s.next_ticket
-    → now.moment ≡ s.moment → now.timers ≡ s.timers → HasBuffers s → HasBuffers now
-alike s now queues ports next moment timers h =
-    unmoved s now queues ports (timed-same s now queues next moment timers h.timed) h
+    → now.moment ≡ s.moment → now.timers ≡ s.timers → now.slots ≡ s.slots → HasBuffers s → HasBuffers now
+alike s now queues ports next moment timers slots h =
+    unmoved s now queues ports (timed-same s now queues next moment timers slots h.timed) h
 
 -- how many queued messages satisfy a predicate
 abbrev pub found_in : (Message → Bool) → Queues → ℕ
@@ -138,6 +139,7 @@ pub record IsPart (q whole : List Message) : Type 0 where
   pub counts : (f : Message → Bool) → count_by f q ≤ count_by f whole
   pub home : (ports : List (Option Port)) (p i : ℕ) → All (IsHome ports p i) whole → All (IsHome ports p i) q
   pub order : (next : ℕ) → Ascends next whole → Ascends next q
+  pub ahead : (t : ℕ) → All (λ m. t < ticket_of m) whole → All (λ m. t < ticket_of m) q
   pub timely : (moment i : ℕ) → All (HasExpired moment i) whole → All (HasExpired moment i) q
 
 pub part-rest : (m : Message) (q : List Message) → IsPart q (m ∷ q)
@@ -148,6 +150,8 @@ part-rest m q =
           λ ports p i h. All-tail (IsHome ports p i) m q h;
       order =
           λ next h. h.2;
+      ahead =
+          λ t h. All-tail (λ m. t < ticket_of m) m q h;
       timely = λ moment i h. All-tail (HasExpired moment i) m q h;
     }
 
@@ -157,6 +161,7 @@ part-none q =
       counts = λ f. omega arith;
       home = λ ports p i h. All-nil (IsHome ports p i);
       order = λ next h. tt;
+      ahead = λ t h. All-nil (λ m. t < ticket_of m);
       timely = λ moment i h. All-nil (HasExpired moment i);
     }
 
@@ -178,13 +183,19 @@ part-left port q = record {
   counts = λ f. count-left f port q;
   home = λ ports p i h. All-filter (λ m. not (is_from_port port m)) (IsHome ports p i) q h;
   order = λ next h. ascends-left port next q h;
+  ahead = λ t h. All-filter (λ m. not (is_from_port port m)) (λ m. t < ticket_of m) q h;
   timely = λ moment i h. All-filter (λ m. not (is_from_port port m)) (HasExpired moment i) q h;
 }
 
+precedes-part : (next : ℕ) (o : Option ℕ) (q whole : List Message) → IsPart q whole → Precedes next o whole
+    → Precedes next o q
+precedes-part next None q whole part h = tt
+precedes-part next (Some t) q whole part h = (h.0, part.ahead t h.1)
+
 pub fewer-queued : (s now : State) (j : ℕ) (q : List Message) → now.queues ≡ set s.queues j q → now.ports ≡ s.ports
-    → now.next_ticket ≡ s.next_ticket → now.moment ≡ s.moment → now.timers ≡ s.timers →
+    → now.next_ticket ≡ s.next_ticket → now.moment ≡ s.moment → now.timers ≡ s.timers → now.slots ≡ s.slots →
     IsPart q (get_or s.queues j []) → HasBuffers s → HasBuffers now
-fewer-queued s now j q is ports next moment timers part h = alike written now is ports next moment timers (record {
+fewer-queued s now j q is ports next moment timers slots part h = alike written now is ports next moment timers slots (record {
   room = λ k. omega (arith, fewer (is_from_port k), h.room k);
   one_each = λ t. omega (arith, fewer (is_from_timer t), h.one_each t);
   within = λ k p e. omega (arith, fewer (is_from_port k), h.within k p e);
@@ -192,7 +203,8 @@ fewer-queued s now j q is ports next moment timers part h = alike written now is
       (λ p i below same. part.home s.ports p i
       (subst (λ k. All (IsHome s.ports p i) (get_or s.queues k [])) same (h.home p i below)))
       (λ p i below _. h.home p i below);
-  timed = timed-queue s written j q refl refl refl refl (part.order s.next_ticket (h.timed.order j))
+  timed = timed-queue s written j q refl refl refl refl refl (part.order s.next_ticket (h.timed.order j))
+      (precedes-part s.next_ticket (get_or s.slots j None) q (get_or s.queues j []) part (h.timed.ahead j))
       (part.timely s.moment (j % 16) (h.timed.timely j)) h.timed;
   ports = omega (arith, ap (λ n. most_ports (n / 16)) (length-set s.queues j q), h.ports);
   few = h.few;
@@ -306,11 +318,11 @@ buffers-slot s p i h = held (slot_of s p i)
   where
     held : (o : Option ℕ) → HasBuffers (option_map_or (withdrawn_ticket s p i) o (nothing s)).0
     held None = h
-    held (Some t) = alike s _ refl refl refl refl refl h
+    held (Some t) = unmoved s _ refl refl (timed-slot s (source_number p i) None tt h.timed) h
 
 pub buffers-queue : (s : State) (p i : ℕ) → HasBuffers s → HasBuffers (queue_emptied s p i).0
 buffers-queue s p i h =
-    fewer-queued s (queue_emptied s p i).0 (source_number p i) [] refl refl refl refl refl
+    fewer-queued s (queue_emptied s p i).0 (source_number p i) [] refl refl refl refl refl refl
     (part-none (queue_of s.queues p i)) h
 
 pub buffers-emptied_below : (s : State) (p n : ℕ) → HasBuffers s → HasBuffers (emptied_below s p n).0

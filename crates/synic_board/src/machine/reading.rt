@@ -39,12 +39,12 @@ impl Machine {
         self.queues.has_buffer(message)
     }
 
-    /// Whether a slot holds a ticket.
-    pub(crate) fn has_ticket(&self, vp: Vp, sint: Sint) -> bool
+    /// The ticket of the message in a slot, if it holds one.
+    pub(crate) fn slot_ticket(&self, vp: Vp, sint: Sint) -> Option<Ticket>
         requires { vp < processors self.now.state }
-        ensures { IsTrue result ↔ (slot_of self.now.state vp sint ≢ None) }
+        ensures { result ≡ slot_of self.now.state vp sint }
     {
-        self.slots[source_number(vp, sint)].is_some()
+        self.slots[source_number(vp, sint)]
     }
 
     /// Whether no slot of a processor holds a ticket.
@@ -54,7 +54,7 @@ impl Machine {
     {
         for number in 0..16 {
             let sint = Sint::new(number).unwrap();
-            if self.has_ticket(vp, sint) {
+            if self.slot_ticket(vp, sint).is_some() {
                 return false;
             }
         }
@@ -69,6 +69,14 @@ impl Machine {
             Ok(port) => Some(port),
             Err(_) => None,
         }
+    }
+
+    /// The first message of a queue.
+    pub(crate) fn first_message(&self, vp: Vp, sint: Sint) -> Option<&Message>
+        requires { vp < processors self.now.state }
+        ensures { option_copied result ≡ slice_get (queue_of self.now.state.queues vp sint) 0 }
+    {
+        self.queues.head(vp, sint)
     }
 
     /// The last message of a queue.

@@ -1,5 +1,5 @@
 -- `enroll` takes the next key.
-use Rattle.atomic_table.proofs.Names.{◌≡◌, ℕ, ◌++◌, List, [], ◌∷◌, refl, named, Val, vptr, vint, w64, SProp, emp, via, Fml, ftrue, flft, sem, ‵, raw, ◌⊛◌, some, later, ◌$◌, ◌∵◌, !, qed, by, move, keep, split, join, fsplit, fsplit3, fjoin, fjoin3, fpack, pick, await, use0, use1, feq_i, no_more, and_then, returns, enter, alloc_all, pass_all, free_all, look_at, get, sets, agg, tables, yes, RattleType, owns, types_at, plain, nothing, Stays, stay_dropped, stay_ref, walk_of, Goes-dropped, Goes-ref, fact, fact_i, mut_vals, mut_Tells, uint_vals, uint_Tells, u64, opens, closes}
+use Rattle.atomic_table.proofs.Names.{◌≡◌, ℕ, ◌++◌, List, [], ◌∷◌, refl, named, Val, vptr, vint, w64, SProp, emp, via, ftrue, flft, ‵, raw, ◌⊛◌, some, later, ◌$◌, ◌∵◌, !, qed, by, move, keep, split, join, fsplit, fsplit3, fjoin, fjoin3, fpack, pick, await, use0, use1, feq_i, no_more, and_then, returns, enter, alloc_all, pass_all, free_all, look_at, get, sets, agg, tables, yes, RattleType, owns, types_at, plain, nothing, Stays, stay_dropped, stay_ref, walk_of, Goes-dropped, Goes-ref, fact, fact_i, mut_vals, mut_Tells, uint_vals, uint_Tells, u64, opens, closes}
 use base.Logic.{ex}
 use types.Owned.{basic}
 use Rattle.atomic_table.proofs.Walks.{proved, leaves}

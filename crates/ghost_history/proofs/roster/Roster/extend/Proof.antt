@@ -1,17 +1,16 @@
 -- `extend` sets the row of a part, which the roster has, in both.
 use Rattle.std.specs.Prelude.{slice_set}
-use Rattle.atomic_table.proofs.Names.{◌≡◌, ℕ, ◌++◌, List, [], ◌∷◌, refl, named, Val, vptr, vunit, SProp, sep, emp, all, all_e, Fml, ftrue, flft, sem, ‵, raw, ◌⊛◌, some, given, later, ◌$◌, ◌∵◌, !, qed, by, move, keep, drop, split, split3, join, fsplit, fsplit3, fjoin, fjoin3, fpick, fpack, pick, learn, rewrite, await, use0, use1, use2, feq_i, unit_lit, of_opd, no_more, and_then, returns, enter, alloc_all, pass_all, free_all, look_at, get, sets, agg, tables, yes, RattleType, owns, types_at, plain, RefOf, nothing, Stays, stay_dropped, stay_ref, walk_of, Goes-dropped, Goes-ref, fact, fact_i, mut_vals, mut_Tells, shr_vals, shr_Tells, opens, closes, heard, arith, sym}
+use Rattle.atomic_table.proofs.Names.{◌≡◌, ℕ, ◌++◌, List, [], ◌∷◌, refl, named, Val, vptr, vunit, SProp, sep, emp, all, all_e, ftrue, flft, sem, ‵, raw, ◌⊛◌, given, later, ◌$◌, ◌∵◌, !, qed, by, move, keep, split, split3, join, fsplit, fsplit3, fjoin, fjoin3, fpick, fpack, learn, rewrite, await, use0, use1, use2, feq_i, unit_lit, of_opd, returns, enter, alloc_all, pass_all, free_all, look_at, sets, tables, yes, RattleType, owns, types_at, plain, RefOf, nothing, Stays, stay_dropped, stay_ref, walk_of, Goes-dropped, Goes-ref, fact, fact_i, mut_vals, mut_Tells, shr_vals, shr_Tells, opens, closes, heard, arith}
 use mathlib.Core.Option as maybe
 use lib.ListN.{get_elem?}
 use types.Owned.{basic}
 use Rattle.atomic_table.proofs.Walks.{proved, leaves}
 use Rattle.atomic_table.specs.Seated.{roster}
 use Rattle.atomic_table.proofs.Roster.{moves, Moved}
-use Rattle.synic_board.specs.declared.history.Entry.{Entry}
-use Rattle.ghost_history.specs.Rows.{Row, row, IsExtended}
+use Rattle.ghost_history.specs.Rows.{Answer, answer, Row, row, IsExtended}
 use Rattle.ghost_history.specs.inside.Codes.{row_coded}
 use Rattle.ghost_history.proofs.Tokens.{held}
-use Rattle.ghost_history.specs.contracts.history.History as histories
+use Rattle.ghost_history.specs.contracts.roster.Answered as answers
 use Rattle.ghost_history.specs.contracts.roster.Roster as rosters
 use Rattle.ghost_history.specs.contracts.roster.Part as parts
 use Rattle.ghost_history.specs.contracts.roster.Roster.extend.{ended, clauses}
@@ -26,13 +25,13 @@ extend_spec 𝓤 𝓛 𝓜 𝓡 wired =
     let Rr : RattleType =
     rosters.the_row in let Pr : RattleType =
     parts.the_row in let Hr : RattleType =
-    histories.the_row in let self = plain (λ _. Rr) in let own = plain (λ _. Pr) in
-    let more = RefOf (2 ∷ []) tt (plain (λ _. Hr)) (λ _. tt) in
+    answers.the_row in let self = plain (λ _. Rr) in let own = plain (λ _. Pr) in
+    let one = RefOf (2 ∷ []) tt (plain (λ _. Hr)) (λ _. tt) in
     let hs : Stays En.signature.params En.kept =
-    (stay_ref (0 ∷ []) tt self, (stay_ref (1 ∷ []) tt own, (stay_dropped more yes, tt))) in
+    (stay_ref (0 ∷ []) tt self, (stay_ref (1 ∷ []) tt own, (stay_dropped one yes, tt))) in
     proved 𝓛 En hs c 𝓜 𝓡 (
       Goes-ref 𝓛 3 0 tt self,
-      (Goes-ref 𝓛 3 1 tt own, (Goes-dropped 𝓛 3 more yes (λ κs x f. refl), tt)),
+      (Goes-ref 𝓛 3 1 tt own, (Goes-dropped 𝓛 3 one yes (λ κs x f. refl), tt)),
     ) #self fn
     (code.unfolded 𝓤 H 𝓜 𝓡 wired)
     (λ κs. (mut_vals, (mut_vals, (shr_vals, tt))))
@@ -43,7 +42,9 @@ extend_spec 𝓤 𝓛 𝓜 𝓡 wired =
     a.1.0.ref_ptr.0 in let o₂ : ℕ =
     a.1.0.ref_ptr.1 in let p : Pr.Denot =
     a.1.0.now in let v : Row =
-    p.row in let es : List Entry = a.1.1.0.now.entries in let u : Row = row v.0 (v.1 ++ es) in
+    p.row in let x : Answer =
+    answer a.1.1.0.now.event.value a.1.1.0.now.reply.value a.1.1.0.now.notices.value in let u : Row =
+    row v.0 (v.1 ++ x ∷ []) in
     let us : List Val = vptr a.1.1.0.ref_ptr.0 a.1.1.0.ref_ptr.1 ∷ [] in
     let y : (walk_of 𝓛 En hs c).Ghost =
     ((κs, qs, bounds, a, (vptr b o ∷ [], (vptr b₂ o₂ ∷ [], (us, tt)))), gh) in let Post : Val → SProp 𝓤 =
@@ -67,7 +68,7 @@ extend_spec 𝓤 𝓛 𝓜 𝓡 wired =
     let h' : Rr.Denot =
     record { marker = h.marker; name = γ; rows = rows' } in let p' : Pr.Denot =
     record { marker = p.marker; name = γ; row = u } in
-    let A₁ : Type 0 = (γ ≡ γ) × (γ ≡ γ) in let A₂ : Type 0 = IsExtended h.rows v es rows' u in
+    let A₁ : Type 0 = (γ ≡ γ) × (γ ≡ γ) in let A₂ : Type 0 = IsExtended h.rows v x rows' u in
     move ! (2 ∷ 0 ∷ []) $ fjoin ! $ move ! (2 ∷ 0 ∷ 3 ∷ 4 ∷ 5 ∷ []) $ closes ! tt Rr h' ts b o $ feq_i ! (List Val)
     (vptr b o ∷ []) (vptr b o ∷ []) refl $ fjoin3 ! $
     move ! (2 ∷ []) $ fpack ! ℕ (held γ u) k $ move ! (3 ∷ 0 ∷ []) $ fjoin ! $ move !

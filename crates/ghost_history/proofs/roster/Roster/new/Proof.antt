@@ -1,5 +1,5 @@
 -- `new` takes a name under which every key is free.
-use Rattle.atomic_table.proofs.Names.{◌≡◌, ℕ, [], ◌∷◌, refl, Val, SProp, emp, via, ‵, raw, ◌⊛◌, some, later, ◌$◌, ◌∵◌, !, qed, by, keep, split, fjoin, fpack, pick, await, use0, no_more, and_then, returns, enter, alloc_all, pass_all, free_all, look_at, get, sets, agg, tables, RattleType, owns, types_at, nothing, alive, Stays, walk_of, fact, fact_i, full_share, sem}
+use Rattle.atomic_table.proofs.Names.{◌≡◌, ℕ, [], ◌∷◌, refl, Val, SProp, emp, via, ‵, raw, ◌⊛◌, some, later, ◌$◌, ◌∵◌, !, qed, by, keep, split, fjoin, fpack, pick, await, use0, no_more, and_then, returns, enter, alloc_all, pass_all, free_all, look_at, get, sets, agg, tables, owns, types_at, nothing, alive, Stays, walk_of, fact, fact_i, full_share, sem}
 use base.Logic.{ex}
 use types.Keyed.{entries_new}
 use types.Owned.{basic}

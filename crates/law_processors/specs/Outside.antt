@@ -1,0 +1,42 @@
+-- A local APIC outside the board takes over requested vectors, which leave the board's own.
+use Rattle.std.specs.Prelude.{◌≡◌, Bool, true, false, ◌==◌, List, [], ◌∷◌}
+use Rattle.std.specs.FinSet as set
+use Rattle.board_terms.specs.Quantities.{Processor}
+use Rattle.lapic_core.specs.Vectors.{Vectors}
+use Rattle.synic_board.specs.declared.event.Event.{Event}
+use Rattle.synic_board.specs.declared.event.Event.TheVariants.{Take, Reset}
+use Rattle.synic_board.specs.State.{State, apic_of, with_apic}
+use Rattle.synic_board.specs.Step.{step}
+
+-- vectors are requested at a processor besides its own
+abbrev pub with_requests : State → Processor → Vectors → State
+with_requests s p vectors =
+    with_apic s p (record (apic_of s p) { requested = set.union (apic_of s p).requested vectors })
+
+-- vectors leave the requests of a processor
+abbrev pub without_requests : State → Processor → Vectors → State
+without_requests s p vectors =
+    with_apic s p (record (apic_of s p) { requested = set.difference (apic_of s p).requested vectors })
+
+-- an event that ends requests of a processor: `take`, and its reset
+abbrev pub ends_requests : Processor → Event → Bool
+ends_requests p (Take q) = true
+ends_requests p (Reset q) = q == p
+ends_requests p event = false
+
+-- What a host does whose local APIC is outside: events, and after each the local APIC takes over some of the requests
+-- of the processor, from the board to those that it has.
+abbrev pub Turn : Type 0
+Turn = Event × Vectors
+
+unfoldable pub taken_over : State → Processor → Vectors → List Turn → State × Vectors
+taken_over s p outside [] = (s, outside)
+taken_over s p outside (turn ∷ turns) =
+    taken_over (without_requests (step s turn.0).0 p turn.1) p (set.union outside turn.1) turns
+
+-- each turn takes over what is requested, and no event ends a request
+unfoldable pub AreTurns : State → Processor → List Turn → Type 0
+AreTurns s p [] = Unit {0}
+AreTurns s p (turn ∷ turns) =
+    (ends_requests p turn.0 ≡ false) × (set.is_subset turn.1 (apic_of (step s turn.0).0 p).requested ≡ true)
+    × AreTurns (without_requests (step s turn.0).0 p turn.1) p turns
