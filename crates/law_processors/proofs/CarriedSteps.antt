@@ -218,7 +218,7 @@ module _ (c : Change) (k : IsCarried c) where
       (same-answer Done (with_bytes s address bytes) (λ x. consumed_in x (owner_of (space_of s) (address / 4096)))
       (carried-consumed_in c k (owner_of (space_of s) (address / 4096)) (with_bytes s address bytes)))
 
-  -- each event, but for those that are left out: a read that replies alike, and a reset whose change is carried
+  -- each event, except those that are left out: a read that replies alike, and a reset whose change is carried
   module _ (skip : Event → Bool) (takes : (p : ℕ) → skip (Take p) ≡ true)
       (reads : (s : State) (p number : ℕ) → skip (Read p number) ≡ false → read (h s) p number ≡ read s p number)
       (resets : (p : ℕ) → skip (Reset p) ≡ false → Carries c (λ s. (cleared s p, []))) where

@@ -15,7 +15,7 @@ abbrev pub Ascends : ℕ → List Message → Type 0
 Ascends next [] = Unit {0}
 Ascends next (m ∷ ms) = (ticket_of m < next) × All (λ x. ticket_of m < ticket_of x) ms × Ascends next ms
 
--- the ticket of the message in a slot is less than those that are queued behind it, and less than the next one
+-- the ticket of the message in a slot is less than those that wait for it, and less than the next one
 abbrev pub Precedes : ℕ → Option ℕ → List Message → Type 0
 Precedes next None q = Unit {0}
 Precedes next (Some t) q = (t < next) × All (λ m. t < ticket_of m) q
