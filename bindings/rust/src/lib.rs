@@ -14,13 +14,14 @@
 //! sources, registers and pages are plain integers in arguments, which the board checks; in results their range
 //! is in the type.
 //!
-//! The library is linked from the folder that the environment variable `SYNICBOARD_LIB_DIR` names
-//! when the crate is built, absolute or relative to the crate's folder, or else from `build` at the
-//! root of the repository. If the library has another version than the crate, and returns a value
-//! that the crate does not know, the call panics.
+//! The crate [`sys`] (`synicboard-sys`) has the declarations of the C header and links the library, from the folder
+//! that the environment variable `SYNICBOARD_LIB_DIR` names when it is built, absolute or relative to the folder of
+//! this crate; or else from `build` at the root of the repository; or else from where pkg-config finds it. If the
+//! library has another version than the crate, and returns a value that the crate does not know, the call panics.
 
 #![no_std]
 #![deny(missing_docs)]
+#![forbid(unsafe_op_in_unsafe_fn)]
 #![deny(clippy::undocumented_unsafe_blocks)]
 
 extern crate alloc;
@@ -34,7 +35,6 @@ pub mod msr;
 mod notice;
 mod recorded;
 mod reply;
-pub mod sys;
 mod terms;
 mod text;
 mod tsc;
@@ -48,6 +48,7 @@ pub use live::{LiveBoard, LiveReply};
 pub use notice::{Notice, Notices, MOST_NOTICES};
 pub use recorded::{NoEntry, NoticeRoom, RecordedBoard, Settled};
 pub use reply::{EventFault, Refusal, Reply};
+pub use synicboard_sys as sys;
 pub use terms::{Moment, OutOfRange, Owner, Port, Sint, Ticket, TimerId, Vector, Vp};
 pub use text::{check, format_entry, replay, End, FormatFault, Verdict};
 pub use tsc::TscPage;
