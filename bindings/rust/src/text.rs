@@ -130,10 +130,10 @@ impl Error for FormatFault {}
 /// which they hold the lock. `actor` is the number of the thread. Allocates the lines, and frees them.
 ///
 /// ```
-/// use synicboard::{Board, Event, Ticket, format_entry};
+/// use synicboard::{Board, Event, Ticket, Vp, format_entry};
 ///
 /// let mut board = Board::open(1, 1, Ticket::new(0)).unwrap();
-/// let event = Event::Take { vp: 0 };
+/// let event = Event::Take { vp: Vp::ZERO };
 /// let reply = board.perform(&event);
 /// let mut room = [0; 535];
 /// let length = format_entry(7, &event, &reply, &mut room).unwrap();
