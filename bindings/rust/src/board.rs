@@ -23,12 +23,13 @@ pub struct Forwarded {
     pub auto_eoi: [u64; 4],
 }
 
-/// The interrupt side of a partition with 1 to 8 processors and 1 to 64 guest pages, or, if it is sparse, with 1 to 64 processors and
-/// with 2^52 guest pages that the caller holds.
+/// The interrupt side of a partition with 1 to 8 processors and 1 to 64 guest pages, or, if it is sparse, with 1 to 64
+/// processors and with 2^52 guest pages that the caller holds.
 ///
 /// Each method for an event returns a [`Reply`]; then [`notices`](Board::notices) returns the notices of the
 /// event. An event that is refused or raises #GP changes nothing. The methods with `&self` are queries: they
-/// change nothing. After [`open`](Board::open) or [`restore`](Board::restore) no method allocates, except [`save`](Board::save).
+/// change nothing. After [`open`](Board::open) or [`restore`](Board::restore) no method allocates, except
+/// [`save`](Board::save) and [`into_live`](Board::into_live).
 /// The value itself takes some 9 KB, with a buffer for the notices of an event.
 ///
 /// ```
@@ -254,7 +255,8 @@ impl Board {
         ))
     }
 
-    /// Opens a port for the `count` event flags from `base` on, of source `sint` of processor `vp`. `count` is at least 1, and `base` + `count` at most 2048.
+    /// Opens a port for the `count` event flags from `base` on, of source `sint` of processor `vp`. `count` is at
+    /// least 1, and `base` + `count` at most 2048.
     ///
     /// `Done`, or refused: `UnknownPort`, `PortOpen`, `BadTarget` (also if `vp` is not on the
     /// board).
@@ -396,11 +398,11 @@ impl Board {
     /// stay, and otherwise there are none afterwards.
     ///
     /// ```
-    /// use synicboard::{Board, Ticket, Vector, Vp};
+    /// use synicboard::{Board, Reply, Ticket, Vector, Vp};
     ///
     /// let mut board = Board::open(1, 1, Ticket::new(0)).unwrap();
     /// for vector in [0x41, 0x90] {
-    ///     board.assert(Vp::ZERO, Vector::new(vector).unwrap());
+    ///     assert_eq!(board.assert(Vp::ZERO, Vector::new(vector).unwrap()), Reply::Done);
     /// }
     /// assert_eq!(board.forward(Vp::ZERO).vectors, [0, 1 << 1, 1 << 16, 0]);
     /// assert_eq!(board.next(Vp::ZERO), None);

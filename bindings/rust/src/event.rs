@@ -15,7 +15,7 @@ use core::ops::Deref;
 pub enum Event {
     /// Opens a port to a source of a processor.
     OpenPort {
-        /// The port: Port::new(0) to 15, or one of four for each processor of a sparse board.
+        /// The port.
         port: Port,
         /// The processor.
         vp: Vp,
@@ -26,7 +26,7 @@ pub enum Event {
     },
     /// Closes a port.
     ClosePort {
-        /// The port: Port::new(0) to 15, or one of four for each processor of a sparse board.
+        /// The port.
         port: Port,
     },
     /// A guest writes a register.
@@ -47,7 +47,7 @@ pub enum Event {
     },
     /// Posts a message to a port.
     Post {
-        /// The port: Port::new(0) to 15, or one of four for each processor of a sparse board.
+        /// The port.
         port: Port,
         /// The type of the message: not 0, and bit 31 is clear.
         kind: u32,
@@ -56,7 +56,7 @@ pub enum Event {
     },
     /// Signals an event flag of a port.
     Signal {
-        /// The port: Port::new(0) to 15, or one of four for each processor of a sparse board.
+        /// The port.
         port: Port,
         /// The number of the flag within the port, from 0 on.
         flag: u16,

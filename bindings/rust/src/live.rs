@@ -12,6 +12,7 @@ use core::ptr;
 const MOST_PAGES: usize = 128;
 
 /// The reply to an event on a board with live pages.
+#[must_use = "an event that was refused has changed nothing"]
 #[derive(Clone, Copy, PartialEq, Eq, Debug)]
 pub struct LiveReply {
     /// The reply to the event itself.
@@ -36,7 +37,8 @@ pub struct LiveReply {
 ///     assert_eq!(board.perform(&Event::Write { vp: Vp::ZERO, register, value }).reply, Reply::Done);
 /// }
 /// let shape = PortShape::Messages { buffers: 2 };
-/// assert_eq!(board.perform(&Event::OpenPort { port: Port::new(3), vp: Vp::ZERO, sint: Sint::SINT2, shape }).reply, Reply::Done);
+/// let open = Event::OpenPort { port: Port::new(3), vp: Vp::ZERO, sint: Sint::SINT2, shape };
+/// assert_eq!(board.perform(&open).reply, Reply::Done);
 /// let payload = PayloadBytes::new(b"hello").unwrap();
 /// let post = Event::Post { port: Port::new(3), kind: 1, payload };
 /// assert_eq!(board.perform(&post).reply, Reply::Accepted(Ticket::new(0)));
@@ -123,6 +125,7 @@ impl LiveBoard {
 
     /// [`Board::save`]. It looks at all words of the live pages that the guest sees first, so the image has what the
     /// guest stored before; the notices are those of these stores. Stop the guest first.
+    #[must_use = "the image may not fit, or not be there"]
     pub fn save(&mut self, room: &mut [u8]) -> Option<usize> {
         self.board.save(room)
     }

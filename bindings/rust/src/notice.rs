@@ -187,6 +187,7 @@ impl LiveRoom {
 
 /// The notices of one event, in order. They borrow the board, so there is no other event while they
 /// are held.
+#[must_use = "notices are read from the board only here"]
 #[derive(Clone)]
 pub struct Notices<'board> {
     start: *const sys::synicboard_notice,

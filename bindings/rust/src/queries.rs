@@ -68,7 +68,7 @@ impl Board {
     }
 
     /// The notices of the last event, in order. There are none if it was refused or raised #GP, or
-    /// before the first event. [`Reply::NoEvent`] is no event: then these are still the notices of
+    /// before the first event. [`NoEvent`](crate::Reply::NoEvent) is no event: then these are still the notices of
     /// the event before.
     pub fn notices(&self) -> Notices<'_> {
         let count = ask!(self, synicboard_notices, self.room.start(), ROOM);
@@ -139,13 +139,13 @@ impl Board {
     /// requested. Its end may wait until the host next asks which vector is next.
     ///
     /// ```
-    /// use synicboard::{Board, Ticket, Vector, Vp};
+    /// use synicboard::{Board, Reply, Ticket, Vector, Vp};
     ///
     /// let mut board = Board::open(1, 1, Ticket::new(0)).unwrap();
-    /// board.assert(Vp::ZERO, Vector::new(0x41).unwrap());
-    /// board.take(Vp::ZERO);
+    /// assert_eq!(board.assert(Vp::ZERO, Vector::new(0x41).unwrap()), Reply::Done);
+    /// assert_eq!(board.take(Vp::ZERO), Reply::Taken(Vector::new(0x41)));
     /// assert!(board.no_eoi_required(Vp::ZERO));
-    /// board.assert(Vp::ZERO, Vector::new(0x31).unwrap());
+    /// assert_eq!(board.assert(Vp::ZERO, Vector::new(0x31).unwrap()), Reply::Done);
     /// assert!(!board.no_eoi_required(Vp::ZERO));
     /// ```
     pub fn no_eoi_required(&self, vp: Vp) -> bool {
@@ -191,6 +191,7 @@ impl Board {
     /// let length = board.save(&mut room).unwrap();
     /// assert_eq!(room[..length], *b"image 1\nboard 1 1 5\nlapic 0 0 0 0 0 0 0 0 0 0 running\nend\n");
     /// ```
+    #[must_use = "the image may not fit, or not be there"]
     pub fn save(&mut self, room: &mut [u8]) -> Option<usize> {
         let end = ask!(self, synicboard_save, room.as_mut_ptr(), room.len());
         match end.kind {
@@ -217,7 +218,8 @@ impl Board {
     }
 
     /// The timer with the earliest deadline, and the deadline in units of 100 ns, even if it is late or not
-    /// ready to expire. `None` if no timer has a deadline. Timers of suspended processors do not count. A deadline above 2^64 - 1 is never reached by a tick.
+    /// ready to expire. `None` if no timer has a deadline. Timers of suspended processors do not count. A deadline
+    /// above 2^64 - 1 is never reached by a tick.
     pub fn earliest(&self) -> Option<(u128, TimerId)> {
         first_due(&ask!(self, synicboard_earliest))
     }
@@ -251,6 +253,7 @@ impl Board {
     /// host to map again: bit i for page i. A write of SIMP or SIEFP, or a reset, may change owners.
     /// An overlay of a sparse board may be at a page above 63: use
     /// [`next_overlay`](Board::next_overlay) there.
+    #[must_use = "the host maps these pages again"]
     pub fn update_owners(&self, owners: &mut Owners) -> u64 {
         ask!(self, synicboard_update_owners, &mut owners.0)
     }

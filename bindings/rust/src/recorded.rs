@@ -54,6 +54,7 @@ impl fmt::Debug for NoticeRoom {
 }
 
 /// The result of settling a history.
+#[must_use = "the trace may not fit, or not be there"]
 #[derive(Clone, Copy, PartialEq, Eq, Debug)]
 pub struct Settled {
     /// Legal, with the number of its entries, unless an allocation failed.

@@ -13,8 +13,8 @@ pub type Moment = u64;
 #[derive(Clone, Copy, PartialEq, Eq, PartialOrd, Ord, Hash, Debug, Default)]
 pub struct Ticket(u64);
 
-/// The number of a port: Port::new(0) to 15, or one of four for each processor of a sparse board. The board refuses any
-/// other.
+/// The number of a port: 0 to 15, or, on a sparse board of more than four processors, below four times their number.
+/// The board refuses any other.
 #[derive(Clone, Copy, PartialEq, Eq, PartialOrd, Ord, Hash, Debug, Default)]
 pub struct Port(u8);
 

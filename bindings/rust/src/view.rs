@@ -15,7 +15,7 @@ const NOTHING: sys::synicboard_page_owner =
 /// [`update`](crate::Board::update).
 ///
 /// ```
-/// use synicboard::{Board, Ticket, Vector, View, Vp};
+/// use synicboard::{Board, Reply, Ticket, Vector, View, Vp};
 ///
 /// # fn main() -> Result<(), synicboard::OpenFault> {
 /// let mut board = Board::open(2, 4, Ticket::new(0))?;
@@ -24,7 +24,7 @@ const NOTHING: sys::synicboard_page_owner =
 ///
 /// let vector = Vector::new(0x50).expect("a vector from 16 on");
 /// let second = Vp::new(1).expect("a processor below 64");
-/// board.assert(second, vector);
+/// assert_eq!(board.assert(second, vector), Reply::Done);
 /// let changes = board.update(&mut view);
 /// assert!(changes.next(second) && !changes.next(Vp::ZERO) && !changes.earliest());
 /// assert_eq!(view.next(second), Some(vector));
@@ -67,14 +67,14 @@ impl fmt::Debug for View {
 /// [`update_wide`](crate::Board::update_wide).
 ///
 /// ```
-/// use synicboard::{Board, Ticket, Vector, Vp, WideView};
+/// use synicboard::{Board, Reply, Ticket, Vector, Vp, WideView};
 ///
 /// # fn main() -> Result<(), synicboard::OpenFault> {
 /// let mut board = Board::open_sparse(64, Ticket::new(0))?;
 /// let mut view = WideView::default();
 /// let vector = Vector::new(0x50).expect("a vector from 16 on");
 /// let last = Vp::new(63).expect("a processor below 64");
-/// board.assert(last, vector);
+/// assert_eq!(board.assert(last, vector), Reply::Done);
 /// let changes = board.update_wide(&mut view);
 /// assert!(changes.nexts() == last.bit() && !changes.earliest());
 /// assert_eq!(view.next(last), Some(vector));
@@ -114,6 +114,7 @@ impl fmt::Debug for WideView {
 }
 
 /// What differs between two updates of a wide view.
+#[must_use = "the host kicks these processors, and arms its timer again"]
 #[derive(Clone, Copy, PartialEq, Eq, Debug)]
 pub struct WideChanges(pub(crate) sys::synicboard_changes);
 
@@ -135,6 +136,7 @@ impl WideChanges {
 }
 
 /// What differs between two updates of a view.
+#[must_use = "the host kicks these processors, and arms its timer again"]
 #[derive(Clone, Copy, PartialEq, Eq, Debug)]
 pub struct Changes(pub(crate) u64);
 
