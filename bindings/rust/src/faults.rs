@@ -8,7 +8,7 @@ use core::fmt;
 #[derive(Clone, Copy, PartialEq, Eq, Hash, Debug)]
 #[non_exhaustive]
 pub enum OpenFault {
-    /// Not 1 to 8 processors, or not 1 to 64 pages; on a sparse board, not 1 to 64 processors.
+    /// Not 1 to 8 processors, or not 1 to 64 pages; of a sparse board or a line, not 1 to 64 processors.
     BadSize,
     /// An allocation failed.
     Memory,

@@ -161,7 +161,7 @@ impl Line {
     /// Never blocks and never allocates.
     ///
     /// `None`, and no effect, if the words do not have the processor.
-    #[must_use = "who raised a fresh vector kicks its processor"]
+    #[must_use = "if the vector is fresh, its processor is kicked"]
     pub fn raise(&mut self, vp: Vp, vector: Vector) -> Option<Raised> {
         match ask!(self, synicboard_raise, vp.number(), vector.number()) {
             sys::SYNICBOARD_NOT_RAISED => None,

@@ -139,7 +139,8 @@ impl LiveBoard {
         unsafe { self.room.first(count) }
     }
 
-    /// The board, for its queries. The pages that it returns are its own, as it knows them.
+    /// The board, for its queries. The pages that it returns are its own, as it knows them, and its notices are the
+    /// first [`MOST_NOTICES`](crate::MOST_NOTICES) of [`LiveBoard::notices`].
     pub fn board(&self) -> &Board {
         &self.board
     }

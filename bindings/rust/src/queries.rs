@@ -87,7 +87,7 @@ impl Board {
         Vp::below(self.processors)
     }
 
-    /// How many guest pages there are, 1 to 64.
+    /// How many guest pages there are, 1 to 64; 0 if the board is sparse.
     pub fn pages(&self) -> u8 {
         self.pages
     }

@@ -13,7 +13,7 @@ use synicboard::{
 
 const VECTOR: Vector = Vector::new(0x50).unwrap();
 
-/// Each number of 8 bits is one of `T`, or is out of its range; a text is read as it is printed.
+/// Each number of 8 bits is a `T` or out of its range, and a `T` is parsed from the text that it prints.
 fn has_range<T>(range: impl Fn(u8) -> bool)
 where
     T: TryFrom<u8, Error = OutOfRange> + FromStr<Err = NumberFault> + Display + Debug + Ord + Copy,

@@ -1,5 +1,6 @@
 //! Compares the text of the declarations, and the version of the crates, with the header in `include` at the root
-//! of the repository, or next to the library; and the layouts that the crate asserts with `packaging/abi`.
+//! of the repository, next to the library, or where `./install` puts it; and the layouts that the crate asserts with
+//! `packaging/abi`.
 
 use std::fs;
 use std::path::Path;
@@ -9,8 +10,9 @@ const OURS: &str = concat!(include_str!("../src/lib.rs"), include_str!("../src/t
 /// The text of each header that exists, without its comments.
 fn headers() -> Vec<String> {
     let include = Path::new(env!("CARGO_MANIFEST_DIR")).join("../../../include");
-    let folders = [include.as_path(), Path::new(env!("SYNICBOARD_LIB_DIR"))];
-    let texts = folders.map(|folder| fs::read_to_string(folder.join("synicboard.h")).ok());
+    let library = Path::new(env!("SYNICBOARD_LIB_DIR"));
+    let folders = [include, library.to_path_buf(), library.join("../include")];
+    let texts = folders.each_ref().map(|folder| fs::read_to_string(folder.join("synicboard.h")).ok());
     let found: Vec<_> = texts.iter().flatten().map(|text| without_comments(text)).collect();
     assert!(!found.is_empty(), "there is no synicboard.h in any of {folders:?}");
     found
