@@ -119,7 +119,7 @@ impl Vp {
 /// assert_eq!(("2".parse(), "SINT2".parse()), (Ok(Sint::SINT2), Ok(Sint::SINT2)));
 /// ```
 ///
-/// It passes for no processor and no port:
+/// A source is not accepted as a processor:
 ///
 /// ```compile_fail,E0308
 /// # use synicboard::{Board, Port, Sint, Ticket, Vp};
@@ -160,7 +160,7 @@ impl Sint {
     }
 }
 
-/// An interrupt vector, 16 to 255.
+/// An interrupt vector, 16 to 255. Its text is in hexadecimal.
 #[derive(Clone, Copy, PartialEq, Eq, PartialOrd, Ord, Hash, Debug)]
 pub struct Vector(NonZeroU8);
 
