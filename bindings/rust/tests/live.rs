@@ -112,7 +112,7 @@ fn live_pages_have_the_bytes_of_the_pages_of_the_board() {
 
 #[test]
 fn each_processor_has_two_pages_of_its_own() {
-    let mut board = Board::open_sparse(8, Ticket::new(0)).unwrap().into_live().unwrap();
+    let board = Board::open_sparse(8, Ticket::new(0)).unwrap().into_live().unwrap();
     let mut addresses: Vec<_> = Vp::below(8)
         .flat_map(|vp| [board.message_page(vp), board.flag_page(vp)])
         .map(|page| page as usize)
@@ -121,6 +121,11 @@ fn each_processor_has_two_pages_of_its_own() {
     addresses.sort();
     addresses.dedup();
     assert_eq!(addresses.len(), 16);
+}
+
+#[test]
+fn each_processor_uses_its_own_pages() {
+    let mut board = Board::open_sparse(8, Ticket::new(0)).unwrap().into_live().unwrap();
     for vp in Vp::below(8) {
         let number = vp.number();
         for (register, page) in [(SIMP, 16), (SIEFP, 32)] {

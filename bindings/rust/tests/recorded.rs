@@ -85,32 +85,37 @@ fn the_trace_is_told_in_the_order_of_the_lock() -> Result<(), Box<dyn Error>> {
     Ok(())
 }
 
+const PROCESSORS: u8 = 3;
+const TURNS: u64 = 300;
+
+/// A processor absorbs, takes and ends, `TURNS` times. Returns how many vectors it absorbed.
+fn run(board: &RecordedBoard, vp: Vp, line: &mut Line) -> u64 {
+    let actor = vp.number();
+    let mut room = NoticeRoom::new();
+    let mut absorbed = 0;
+    for _ in 0..TURNS {
+        absorbed += u64::from(board.absorb(actor, line, vp, PART, &mut room).unwrap().1.count_ones());
+        assert!(matches!(board.act(actor, &Event::Take { vp }, &mut room), Ok(Reply::Taken(_))));
+        let end = Event::Write { vp, register: EOI, value: 0 };
+        assert_eq!(board.act(actor, &end, &mut room), Ok(Reply::Done));
+    }
+    absorbed
+}
+
 #[test]
 fn what_threads_did_is_legal_and_loses_nothing() -> Result<(), Box<dyn Error>> {
-    const PROCESSORS: u8 = 3;
-    const TURNS: u64 = 300;
     let board = RecordedBoard::open(PROCESSORS, 1, Ticket::new(0))?;
     let mut of_device = Line::open(PROCESSORS)?;
     let mut lines = Vec::new();
     for _ in 0..PROCESSORS {
         lines.push(of_device.split()?);
     }
-    let run = |vp: Vp, line: &mut Line| {
-        let actor = vp.number();
-        let mut room = NoticeRoom::new();
-        let mut absorbed = 0;
-        for _ in 0..TURNS {
-            absorbed += u64::from(board.absorb(actor, line, vp, PART, &mut room).unwrap().1.count_ones());
-            assert!(matches!(board.act(actor, &Event::Take { vp }, &mut room), Ok(Reply::Taken(_))));
-            let end = Event::Write { vp, register: EOI, value: 0 };
-            assert_eq!(board.act(actor, &end, &mut room), Ok(Reply::Done));
-        }
-        absorbed
-    };
     let (fresh, mut absorbed) = thread::scope(|scope| {
-        let run = &run;
-        let threads =
-            lines.iter_mut().zip(Vp::below(PROCESSORS)).map(|(line, vp)| scope.spawn(move || run(vp, line)));
+        let board = &board;
+        let threads = lines
+            .iter_mut()
+            .zip(Vp::below(PROCESSORS))
+            .map(|(line, vp)| scope.spawn(move || run(board, vp, line)));
         let threads: Vec<_> = threads.collect();
         let raises = (0..3000_u32).map(|turn| {
             let vector = Vector::new(64 * PART + (turn % 64) as u8).expect("a vector of the part");
