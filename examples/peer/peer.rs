@@ -4,7 +4,7 @@
 //! A call that is left out answers `= unsupported`, and the cases that need it are skipped.
 
 use std::io::{self, BufRead, Write};
-use synicboard::{Board, Notice, Port, Reply, Ticket, Vector};
+use synicboard::{Board, Notice, Port, Refusal, Reply, Sint, Ticket, Vector, Vp};
 
 /// An answer: the reply, without `= `, and the notices, without `. `.
 #[derive(Default)]
@@ -246,6 +246,23 @@ fn told(board: &Board, reply: Reply) -> Answer {
     Answer { reply: reply_text(reply), notices: board.notices().map(notice_text).collect() }
 }
 
+/// Performs an event of a processor, which is refused if no board has it.
+fn of_processor(board: &mut Board, vp: u8, perform: impl FnOnce(&mut Board, Vp) -> Reply) -> Answer {
+    let Some(vp) = Vp::new(vp) else {
+        let reply = reply_text(Reply::Refused(Refusal::NoSuchProcessor));
+        return Answer { reply, notices: Vec::new() };
+    };
+    let reply = perform(board, vp);
+    told(board, reply)
+}
+
+/// The target and the size of a port to open. If no board has the target, it is another one with the size 0, which
+/// is refused in the same way.
+fn target<T: Default>(vp: u8, sint: u8, size: T) -> (Vp, Sint, T) {
+    let found = Vp::new(vp).zip(Sint::new(sint));
+    found.map_or((Vp::ZERO, Sint::SINT0, T::default()), |(vp, sint)| (vp, sint, size))
+}
+
 impl Peer for Board {
     fn open_board(processors: u8, pages: u8, ticket: u64) -> Option<Board> {
         Board::open(processors, pages, Ticket::new(ticket)).ok()
@@ -256,11 +273,13 @@ impl Peer for Board {
     }
 
     fn open_message_port(&mut self, port: u8, vp: u8, sint: u8, buffers: u8) -> Answer {
+        let (vp, sint, buffers) = target(vp, sint, buffers);
         let reply = Board::open_message_port(self, Port::new(port), vp, sint, buffers);
         told(self, reply)
     }
 
     fn open_event_port(&mut self, port: u8, vp: u8, sint: u8, base: u16, count: u16) -> Answer {
+        let (vp, sint, count) = target(vp, sint, count);
         let reply = Board::open_event_port(self, Port::new(port), vp, sint, base, count);
         told(self, reply)
     }
@@ -271,13 +290,11 @@ impl Peer for Board {
     }
 
     fn write_msr(&mut self, vp: u8, msr: u32, value: u64) -> Answer {
-        let reply = self.write(vp, msr, value);
-        told(self, reply)
+        of_processor(self, vp, |board, vp| board.write(vp, msr, value))
     }
 
     fn read_msr(&mut self, vp: u8, msr: u32) -> Answer {
-        let reply = self.read(vp, msr);
-        told(self, reply)
+        of_processor(self, vp, |board, vp| board.read(vp, msr))
     }
 
     fn post_message(&mut self, port: u8, kind: u32, payload: &[u8]) -> Answer {
@@ -294,13 +311,11 @@ impl Peer for Board {
         let Some(vector) = Vector::new(vector) else {
             return unsupported();
         };
-        let reply = self.assert(vp, vector);
-        told(self, reply)
+        of_processor(self, vp, |board, vp| board.assert(vp, vector))
     }
 
     fn absorb_posted(&mut self, vp: u8, part: u8, bits: u64) -> Answer {
-        let reply = self.absorb(vp, part, bits);
-        told(self, reply)
+        of_processor(self, vp, |board, vp| board.absorb(vp, part, bits))
     }
 
     fn guest_store(&mut self, address: u64, bytes: &[u8]) -> Answer {
@@ -319,23 +334,19 @@ impl Peer for Board {
     }
 
     fn take_interrupt(&mut self, vp: u8) -> Answer {
-        let reply = self.take(vp);
-        told(self, reply)
+        of_processor(self, vp, Board::take)
     }
 
     fn suspend(&mut self, vp: u8) -> Answer {
-        let reply = Board::suspend(self, vp);
-        told(self, reply)
+        of_processor(self, vp, Board::suspend)
     }
 
     fn resume(&mut self, vp: u8) -> Answer {
-        let reply = Board::resume(self, vp);
-        told(self, reply)
+        of_processor(self, vp, Board::resume)
     }
 
     fn reset(&mut self, vp: u8) -> Answer {
-        let reply = Board::reset(self, vp);
-        told(self, reply)
+        of_processor(self, vp, Board::reset)
     }
 
     fn send_interrupt(&mut self, vector: u8, mask: u64) -> Answer {

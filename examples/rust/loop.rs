@@ -7,7 +7,10 @@ use std::sync::atomic::{AtomicU64, Ordering};
 use std::sync::{Condvar, Mutex};
 use std::thread;
 use synicboard::msr::{EOI, EOM, SCONTROL, SIMP, STIMER0_CONFIG, STIMER0_COUNT};
-use synicboard::{Board, Line, Notice, Port, Raised, Refusal, Reply, Ticket, Vector};
+use synicboard::{Board, Line, Notice, Port, Raised, Refusal, Reply, Sint, Ticket, Vector, Vp};
+
+const ZERO: Vp = Vp::ZERO;
+const ONE: Vp = Vp::new(1).unwrap();
 
 const SINT2: u32 = 0x4000_0092;
 const TIMER_VECTOR: Vector = Vector::new(0x40).unwrap();
@@ -41,9 +44,9 @@ struct Seen {
 }
 
 impl Seen {
-    fn is_all(&self, vp: u8) -> bool {
+    fn is_all(&self, vp: Vp) -> bool {
         match vp {
-            0 => self.expiries == EXPIRIES && self.work == WORK,
+            ZERO => self.expiries == EXPIRIES && self.work == WORK,
             _ => self.messages == MESSAGES,
         }
     }
@@ -74,7 +77,7 @@ fn post_messages(host: &Host) {
 fn do_work(host: &Host, mut line: Line) {
     for _ in 0..WORK {
         host.work.fetch_add(1, Ordering::SeqCst);
-        let raised = line.raise(0, WORK_VECTOR).expect("the words are for processor 0");
+        let raised = line.raise(ZERO, WORK_VECTOR).expect("the words are for processor 0");
         if raised == Raised::Fresh {
             // Processor 0 absorbs and goes to sleep in one critical section, so it cannot miss this
             // kick.
@@ -85,12 +88,12 @@ fn do_work(host: &Host, mut line: Line) {
 }
 
 /// The thread of a processor. Ends when its guest has received everything.
-fn processor(host: &Host, vp: u8, mut line: Line) -> Seen {
+fn processor(host: &Host, vp: Vp, mut line: Line) -> Seen {
     let mut seen = Seen::default();
     while !seen.is_all(vp) {
         let mut board = host.board.lock().unwrap();
         done(board.absorb_line(&mut line, vp, WORK_VECTOR.number() / 64));
-        let are_idle = (0..2).all(|vp| board.next(vp).is_none());
+        let are_idle = board.next_bits() == 0;
         if let Some(next) = board.next(vp) {
             // The guest always accepts interrupts, and its handler runs here, with the lock held.
             assert_eq!(board.take(vp), Reply::Taken(Some(next)));
@@ -110,7 +113,7 @@ fn processor(host: &Host, vp: u8, mut line: Line) -> Seen {
 }
 
 /// The handler of a guest.
-fn handle(host: &Host, board: &mut Board, vp: u8, vector: Vector, seen: &mut Seen) {
+fn handle(host: &Host, board: &mut Board, vp: Vp, vector: Vector, seen: &mut Seen) {
     match vector {
         WORK_VECTOR => seen.work = host.work.load(Ordering::SeqCst),
         TIMER_VECTOR => {
@@ -127,7 +130,7 @@ fn handle(host: &Host, board: &mut Board, vp: u8, vector: Vector, seen: &mut See
 }
 
 /// The guest reads the message in the slot of SINT2, and gives the slot back.
-fn receive(board: &mut Board, vp: u8) -> u64 {
+fn receive(board: &mut Board, vp: Vp) -> u64 {
     let slot = &board.message_page(vp).expect("it is on the board")[SLOT..];
     let is_pending = slot[5] & 1 == 1;
     let number = u64::from_le_bytes(slot[16..24].try_into().expect("eight bytes"));
@@ -144,11 +147,11 @@ fn receive(board: &mut Board, vp: u8) -> u64 {
 /// of processor 0 sets its timer: direct mode, vector 40, every 10 units of 100 ns.
 fn set_up(board: &mut Board) {
     for (register, value) in [(SCONTROL, 1), (SIMP, PAGE | 1), (SINT2, 0x50)] {
-        done(board.write(1, register, value));
+        done(board.write(ONE, register, value));
     }
-    done(board.open_message_port(PORT, 1, 2, 4));
-    done(board.write(0, STIMER0_COUNT, 10));
-    done(board.write(0, STIMER0_CONFIG, 0x1403));
+    done(board.open_message_port(PORT, ONE, Sint::SINT2, 4));
+    done(board.write(ZERO, STIMER0_COUNT, 10));
+    done(board.write(ZERO, STIMER0_CONFIG, 0x1403));
 }
 
 fn main() {
@@ -159,8 +162,8 @@ fn main() {
     let (second, third) = (first.split().expect("a second line"), first.split().expect("a third line"));
     let host = Host { board: Mutex::new(board), kick: Condvar::new(), work: AtomicU64::new(0) };
     let (zero, one) = thread::scope(|scope| {
-        let zero = scope.spawn(|| processor(&host, 0, first));
-        let one = scope.spawn(|| processor(&host, 1, second));
+        let zero = scope.spawn(|| processor(&host, ZERO, first));
+        let one = scope.spawn(|| processor(&host, ONE, second));
         scope.spawn(|| do_work(&host, third));
         post_messages(&host);
         (zero.join().expect("processor 0"), one.join().expect("processor 1"))

@@ -5,7 +5,7 @@
 use std::error::Error;
 use std::thread;
 use synicboard::msr::EOI;
-use synicboard::{Event, Line, NoEntry, NoticeRoom, Raised, RecordedBoard, Ticket, Vector};
+use synicboard::{Event, Line, NoEntry, NoticeRoom, Raised, RecordedBoard, Ticket, Vector, Vp};
 
 const PROCESSORS: u8 = 2;
 const TURNS: usize = 500;
@@ -13,21 +13,21 @@ const RAISES: usize = 2000;
 const PART: u8 = 1;
 
 /// A processor absorbs its raised vectors. Returns how many there were.
-fn absorb(board: &RecordedBoard, line: &mut Line, vp: u8) -> Result<u64, NoEntry> {
-    let (_, bits) = board.absorb(vp, line, vp, PART, &mut NoticeRoom::new())?;
+fn absorb(board: &RecordedBoard, line: &mut Line, vp: Vp) -> Result<u64, NoEntry> {
+    let (_, bits) = board.absorb(vp.number(), line, vp, PART, &mut NoticeRoom::new())?;
     Ok(bits.count_ones().into())
 }
 
 /// The loop of a processor's thread, the actor of its own number. Returns how many vectors it
 /// absorbed.
-fn run_processor(board: &RecordedBoard, line: &mut Line, vp: u8) -> Result<u64, NoEntry> {
+fn run_processor(board: &RecordedBoard, line: &mut Line, vp: Vp) -> Result<u64, NoEntry> {
     let end = Event::Write { vp, register: EOI, value: 0 };
     let mut room = NoticeRoom::new();
     let mut absorbed = 0;
     for _ in 0..TURNS {
         absorbed += absorb(board, line, vp)?;
         for event in [Event::Take { vp }, end] {
-            let _ = board.act(vp, &event, &mut room)?;
+            let _ = board.act(vp.number(), &event, &mut room)?;
         }
     }
     Ok(absorbed)
@@ -38,7 +38,8 @@ fn run_device(line: &mut Line) -> u64 {
     let raises = (0..RAISES).map(|turn| {
         let bit = (turn / usize::from(PROCESSORS) % 64) as u8;
         let vector = Vector::new(64 * PART + bit).expect("a vector of the part");
-        line.raise((turn % usize::from(PROCESSORS)) as u8, vector)
+        let vp = Vp::new((turn % usize::from(PROCESSORS)) as u8).expect("a processor below 64");
+        line.raise(vp, vector)
     });
     raises.filter(|raised| *raised == Some(Raised::Fresh)).count() as u64
 }
@@ -51,7 +52,7 @@ fn main() -> Result<(), Box<dyn Error>> {
         let board = &board;
         let threads: Vec<_> = lines
             .iter_mut()
-            .zip(0..)
+            .zip(Vp::below(PROCESSORS))
             .map(|(line, vp)| scope.spawn(move || run_processor(board, line, vp)))
             .collect();
         let fresh = run_device(&mut device_line);
@@ -59,7 +60,7 @@ fn main() -> Result<(), Box<dyn Error>> {
         (fresh, absorbed.sum::<Result<u64, NoEntry>>())
     });
     let mut absorbed = in_turns?;
-    for vp in 0..PROCESSORS {
+    for vp in Vp::below(PROCESSORS) {
         absorbed += absorb(&board, &mut device_line, vp)?;
     }
     println!("{:?}", board.settle(&mut []).verdict);

@@ -43,7 +43,7 @@ pub struct AnswerRoom {
 }
 
 impl AnswerRoom {
-    /// An empty buffer with capacity for the notices of any step, on a board with live pages too (1.8 MB); `None` if
+    /// An empty buffer with capacity for the notices of any step, on a board with live pages too (1.5 MB); `None` if
     /// an allocation fails.
     pub fn new() -> Option<AnswerRoom> {
         Some(AnswerRoom { room: LiveRoom::new()?, count: 0 })

@@ -1,90 +1,17 @@
-//! A board: its events and queries.
+//! A board and its events.
 
-use crate::notice::{Room, LIVE_ROOM, ROOM};
+use crate::notice::{Room, LIVE_ROOM};
+use crate::queries::first_due;
 use crate::{
-    beyond_the_header, same_library, sys, Answer, AnswerRoom, Changes, Event, Line, Moment, Notices, Owner,
-    Owners, Port, PortShape, Reply, Sint, Ticket, TimerId, Vector, View, Vp, WideChanges, WideView,
+    beyond_the_header, same_library, sys, Answer, AnswerRoom, Event, Line, Moment, OpenFault, Port,
+    PortShape, Reply, RestoreFault, Sint, Ticket, TimerId, Vector, Vp,
 };
 use core::cell::UnsafeCell;
-use core::error::Error;
 use core::fmt;
 use core::ptr;
 
 /// The bytes of a page.
 pub const PAGE_BYTES: usize = 4096;
-
-/// Why a board or a line was not opened.
-#[derive(Clone, Copy, PartialEq, Eq, Hash, Debug)]
-#[non_exhaustive]
-pub enum OpenFault {
-    /// Not 1 to 8 processors, or not 1 to 64 pages; on a sparse board, not 1 to 64 processors.
-    BadSize,
-    /// An allocation failed.
-    Memory,
-}
-
-impl OpenFault {
-    /// The result of opening a closed handle.
-    pub(crate) fn judged(answer: u8) -> Result<(), OpenFault> {
-        match answer {
-            sys::SYNICBOARD_OK => Ok(()),
-            sys::SYNICBOARD_BAD_SIZE => Err(OpenFault::BadSize),
-            sys::SYNICBOARD_NO_MEMORY => Err(OpenFault::Memory),
-            _ => beyond_the_header(&answer),
-        }
-    }
-}
-
-impl fmt::Display for OpenFault {
-    fn fmt(&self, formatter: &mut fmt::Formatter<'_>) -> fmt::Result {
-        formatter.write_str(match self {
-            OpenFault::BadSize => "the sizes are outside the limits",
-            OpenFault::Memory => "out of memory",
-        })
-    }
-}
-
-impl Error for OpenFault {}
-
-/// Why no board was restored from an image.
-#[derive(Clone, Copy, PartialEq, Eq, Hash, Debug)]
-#[non_exhaustive]
-pub enum RestoreFault {
-    /// The text is no image; this line is the first wrong one, counted from 1.
-    WrongLine(u64),
-    /// An allocation failed.
-    Memory,
-    /// The text has more than 1,073,741,824 bytes, and no line of these is wrong.
-    TooLong,
-}
-
-impl fmt::Display for RestoreFault {
-    fn fmt(&self, formatter: &mut fmt::Formatter<'_>) -> fmt::Result {
-        match self {
-            RestoreFault::WrongLine(line) => write!(formatter, "line {line} of the image is wrong"),
-            RestoreFault::Memory => formatter.write_str("out of memory"),
-            RestoreFault::TooLong => formatter.write_str("the image is too long"),
-        }
-    }
-}
-
-impl Error for RestoreFault {}
-
-/// A local APIC. Bit i of word k is vector 64 * k + i.
-#[derive(Clone, Copy, PartialEq, Eq, Debug)]
-pub struct LocalApic {
-    /// The requests (IRR).
-    pub requested: [u64; 4],
-    /// The vectors in service (ISR).
-    pub in_service: [u64; 4],
-    /// The task priority (TPR).
-    pub task_priority: u8,
-    /// The processor priority (PPR): TPR, or the class of the greatest vector in service if that is
-    /// higher.
-    pub processor_priority: u8,
-    /// Whether the processor is suspended.
-    pub is_suspended: bool,
-}
 
 /// What a processor forwards to a local APIC outside the board. Bit i of word k is vector 64 * k + i.
 #[must_use = "the board has these vectors no longer"]
@@ -96,52 +23,41 @@ pub struct Forwarded {
     pub auto_eoi: [u64; 4],
 }
 
-/// A timer.
-#[derive(Clone, Copy, PartialEq, Eq, Debug)]
-pub struct Timer {
-    /// STIMERn_CONFIG.
-    pub config: u64,
-    /// STIMERn_COUNT.
-    pub count: u64,
-    /// The deadline, in units of 100 ns.
-    pub due: Option<u128>,
-}
-
-/// The interrupt side of a partition with 1 to 8 processors and 1 to 64 guest pages, or, if it is sparse, with 1 to 64 processors and
-/// with 2^52 guest pages that the caller holds.
+/// The interrupt side of a partition with 1 to 8 processors and 1 to 64 guest pages, or, if it is sparse, with 1 to 64
+/// processors and with 2^52 guest pages that the caller holds.
 ///
-/// Each method with `&mut self` performs an event and returns a [`Reply`]; then
-/// [`notices`](Board::notices) returns the notices of the event. An event that is refused or raises
-/// #GP changes nothing. The methods with `&self` are queries: they change nothing, and return cached
-/// values. After [`open`](Board::open) or [`restore`](Board::restore) no method allocates, except [`save`](Board::save).
+/// Each method for an event returns a [`Reply`]; then [`notices`](Board::notices) returns the notices of the
+/// event. An event that is refused or raises #GP changes nothing. The methods with `&self` are queries: they
+/// change nothing. After [`open`](Board::open) or [`restore`](Board::restore) no method allocates, except
+/// [`save`](Board::save) and [`into_live`](Board::into_live).
 /// The value itself takes some 9 KB, with a buffer for the notices of an event.
 ///
 /// ```
-/// use synicboard::{Board, Notice, Port, Reply, Ticket, Vector};
+/// use synicboard::{Board, Notice, Port, Reply, Sint, Ticket, Vector, Vp};
 ///
 /// # fn main() -> Result<(), synicboard::OpenFault> {
 /// let mut board = Board::open(1, 4, Ticket::new(0))?;
 ///
 /// // The guest enables its SynIC, maps its message page at page 2, and gives SINT2 vector 50.
 /// for (register, value) in [(0x4000_0080, 1), (0x4000_0083, 0x2001), (0x4000_0092, 0x50)] {
-///     assert_eq!(board.write(0, register, value), Reply::Done);
+///     assert_eq!(board.write(Vp::ZERO, register, value), Reply::Done);
 /// }
 ///
 /// // The host opens port 3 to SINT2, with two buffers, and posts a message of type 1.
-/// assert_eq!(board.open_message_port(Port::new(3), 0, 2, 2), Reply::Done);
+/// assert_eq!(board.open_message_port(Port::new(3), Vp::ZERO, Sint::SINT2, 2), Reply::Done);
 /// assert_eq!(board.post(Port::new(3), 1, b"hello"), Reply::Accepted(Ticket::new(0)));
 /// let requested = |notice| matches!(notice, Notice::Requested { .. });
 /// assert!(board.notices().any(requested));
 ///
 /// // The processor takes the vector, and finds the message in the slot of SINT2.
-/// assert_eq!(board.next(0), Vector::new(0x50));
-/// assert_eq!(board.take(0), Reply::Taken(Vector::new(0x50)));
-/// let page = board.message_page(0).expect("the board has a processor 0");
+/// assert_eq!(board.next(Vp::ZERO), Vector::new(0x50));
+/// assert_eq!(board.take(Vp::ZERO), Reply::Taken(Vector::new(0x50)));
+/// let page = board.message_page(Vp::ZERO).expect("the board has a processor 0");
 /// assert_eq!(&page[0x210..0x215], b"hello");
 ///
 /// // The guest empties the slot and ends the interrupt.
 /// assert_eq!(board.store(0x2200, &[0; 4]), Reply::Done);
-/// assert_eq!(board.write(0, 0x4000_0070, 0), Reply::Done);
+/// assert_eq!(board.write(Vp::ZERO, 0x4000_0070, 0), Reply::Done);
 /// # Ok(())
 /// # }
 /// ```
@@ -157,7 +73,7 @@ pub struct Timer {
 /// ```compile_fail,E0277
 /// # let board = synicboard::Board::open(1, 1, synicboard::Ticket::new(0)).unwrap();
 /// std::thread::scope(|scope| {
-///     scope.spawn(|| board.next(0)); // no other thread may use it
+///     scope.spawn(|| board.next(synicboard::Vp::ZERO)); // no other thread may use it
 /// });
 /// ```
 ///
@@ -176,9 +92,9 @@ pub struct Board {
     // The library may be asked through a shared reference, and takes a mutable pointer for events.
     pub(crate) handle: UnsafeCell<sys::synicboard>,
     // Buffer for the notices of the last event. It costs nothing unless `notices` is called.
-    room: Room,
-    processors: u8,
-    pages: u8,
+    pub(crate) room: Room,
+    pub(crate) processors: u8,
+    pub(crate) pages: u8,
 }
 
 // SAFETY: what the handle owns is `Send`, which is proved with the library: `BoardHandle` of its
@@ -199,20 +115,6 @@ macro_rules! ask {
 }
 
 pub(crate) use ask;
-
-/// Returns a page for as long as the board is borrowed, if the library has one.
-macro_rules! lent {
-    ($board:expr, $call:ident, $number:expr) => {{
-        let mut page = ptr::null();
-        if ask!($board, $call, $number, &mut page) {
-            // SAFETY: this is the address of a page of 4096 bytes, valid until the board is closed.
-            // Only events change its bytes, and none can happen while the board is borrowed.
-            Some(unsafe { &*page.cast::<[u8; PAGE_BYTES]>() })
-        } else {
-            None
-        }
-    }};
-}
 
 /// Opening a board, and its events. The docs of each event list its replies. An event of a
 /// processor is also refused with [`NoSuchProcessor`](crate::Refusal::NoSuchProcessor) if `vp` is
@@ -247,8 +149,8 @@ impl Board {
     /// use synicboard::{Board, Owner, Refusal, Reply, Ticket, Vp, msr};
     ///
     /// let mut board = Board::open_sparse(1, Ticket::new(0)).unwrap();
-    /// assert_eq!(board.write(0, msr::SIMP, 0x7_fff0_0001), Reply::Done);
-    /// assert_eq!(board.next_overlay(0), Some((0x7_fff00, Owner::Sim(Vp::new(0).unwrap()))));
+    /// assert_eq!(board.write(Vp::ZERO, msr::SIMP, 0x7_fff0_0001), Reply::Done);
+    /// assert_eq!(board.next_overlay(0), Some((0x7_fff00, Owner::Sim(Vp::ZERO))));
     /// assert_eq!(board.store(0x7_fff0_0000, &[1; 4]), Reply::Done);
     /// assert_eq!(board.store(0x7_ffef_f000, &[1; 4]), Reply::Refused(Refusal::Elsewhere));
     /// ```
@@ -272,14 +174,14 @@ impl Board {
     /// those before it. Allocates all memory that the board needs.
     ///
     /// ```
-    /// use synicboard::{Board, Reply, Ticket, Vector};
+    /// use synicboard::{Board, Reply, Ticket, Vector, Vp};
     ///
     /// let mut board = Board::open(1, 1, Ticket::new(5)).unwrap();
-    /// assert_eq!(board.assert(0, Vector::new(0x60).unwrap()), Reply::Done);
+    /// assert_eq!(board.assert(Vp::ZERO, Vector::new(0x60).unwrap()), Reply::Done);
     /// let mut room = [0; 80];
     /// let length = board.save(&mut room).unwrap();
     /// let restored = Board::restore(&room[..length]).unwrap();
-    /// assert_eq!(restored.next(0), Vector::new(0x60));
+    /// assert_eq!(restored.next(Vp::ZERO), Vector::new(0x60));
     /// ```
     ///
     /// # Errors
@@ -302,7 +204,7 @@ impl Board {
             sys::SYNICBOARD_TOO_LONG => return Err(RestoreFault::TooLong),
             _ => beyond_the_header(&end.kind),
         }
-        board.processors = (0..64).take_while(|&vp| board.message_page(vp).is_some()).count() as u8;
+        board.processors = Vp::below(64).take_while(|&vp| board.message_page(vp).is_some()).count() as u8;
         board.pages = (0..64).take_while(|&page| board.guest_page(page).is_some()).count() as u8;
         Ok(board)
     }
@@ -329,30 +231,45 @@ impl Board {
         }
     }
 
-    fn open_port(&mut self, port: Port, vp: u8, sint: u8, shape: PortShape) -> Reply {
+    fn open_port(&mut self, port: Port, vp: Vp, sint: Sint, shape: PortShape) -> Reply {
         match shape {
             PortShape::Messages { buffers } => self.open_message_port(port, vp, sint, buffers),
             PortShape::Flags { base, count } => self.open_event_port(port, vp, sint, base, count),
         }
     }
 
-    /// Opens a port for messages to source `sint`, 0 to 15, of processor `vp`. At most `buffers` of its
+    /// Opens a port for messages to source `sint` of processor `vp`. At most `buffers` of its
     /// messages, 1 to 16, may be queued at once. A board has ports 0 to 15; a sparse board of more than
     /// four processors has four for each. All ports of a processor have at most 256 buffers.
     ///
     /// `Done`, or refused: `UnknownPort`, `PortOpen`, `BadTarget` (also if `vp` is not on the
     /// board, or has not as many buffers left).
-    pub fn open_message_port(&mut self, port: Port, vp: u8, sint: u8, buffers: u8) -> Reply {
-        Reply::of(ask!(self, synicboard_open_message_port, port.number(), vp, sint, buffers))
+    pub fn open_message_port(&mut self, port: Port, vp: Vp, sint: Sint, buffers: u8) -> Reply {
+        Reply::of(ask!(
+            self,
+            synicboard_open_message_port,
+            port.number(),
+            vp.number(),
+            sint.number(),
+            buffers
+        ))
     }
 
-    /// Opens a port for the `count` event flags from `base` on, of source `sint`, 0 to
-    /// 15, of processor `vp`. `count` is at least 1, and `base` + `count` at most 2048.
+    /// Opens a port for the `count` event flags from `base` on, of source `sint` of processor `vp`. `count` is at
+    /// least 1, and `base` + `count` at most 2048.
     ///
     /// `Done`, or refused: `UnknownPort`, `PortOpen`, `BadTarget` (also if `vp` is not on the
     /// board).
-    pub fn open_event_port(&mut self, port: Port, vp: u8, sint: u8, base: u16, count: u16) -> Reply {
-        Reply::of(ask!(self, synicboard_open_event_port, port.number(), vp, sint, base, count))
+    pub fn open_event_port(&mut self, port: Port, vp: Vp, sint: Sint, base: u16, count: u16) -> Reply {
+        Reply::of(ask!(
+            self,
+            synicboard_open_event_port,
+            port.number(),
+            vp.number(),
+            sint.number(),
+            base,
+            count
+        ))
     }
 
     /// Closes a port and withdraws its queued messages. Messages in slots stay.
@@ -365,15 +282,15 @@ impl Board {
     /// A guest writes a register of processor `vp`.
     ///
     /// `Done`, or `GeneralProtection`.
-    pub fn write(&mut self, vp: u8, register: u32, value: u64) -> Reply {
-        Reply::of(ask!(self, synicboard_write, vp, register, value))
+    pub fn write(&mut self, vp: Vp, register: u32, value: u64) -> Reply {
+        Reply::of(ask!(self, synicboard_write, vp.number(), register, value))
     }
 
     /// A guest reads a register of processor `vp`.
     ///
     /// `Value`, or `GeneralProtection`.
-    pub fn read(&mut self, vp: u8, register: u32) -> Reply {
-        Reply::of(ask!(self, synicboard_read, vp, register))
+    pub fn read(&mut self, vp: Vp, register: u32) -> Reply {
+        Reply::of(ask!(self, synicboard_read, vp.number(), register))
     }
 
     /// Posts a message with a payload of up to 240 bytes to a port. Its type must not be 0 and must
@@ -397,16 +314,16 @@ impl Board {
     /// A device requests a vector at the local APIC of processor `vp`.
     ///
     /// `Done`.
-    pub fn assert(&mut self, vp: u8, vector: Vector) -> Reply {
-        Reply::of(ask!(self, synicboard_assert, vp, vector.number()))
+    pub fn assert(&mut self, vp: Vp, vector: Vector) -> Reply {
+        Reply::of(ask!(self, synicboard_assert, vp.number(), vector.number()))
     }
 
     /// Requests posted vectors at the local APIC of processor `vp`: bit i of `bits` is vector 64 *
     /// `part` + i, for a part of 0 to 3. Vectors below 16 are ignored.
     ///
     /// `Done`, or refused: `BadTarget` for a part above 3.
-    pub fn absorb(&mut self, vp: u8, part: u8, bits: u64) -> Reply {
-        Reply::of(ask!(self, synicboard_absorb, vp, part, bits))
+    pub fn absorb(&mut self, vp: Vp, part: u8, bits: u64) -> Reply {
+        Reply::of(ask!(self, synicboard_absorb, vp.number(), part, bits))
     }
 
     /// Clears the bits of a part, 0 to 3, of processor `vp` in the words of a line, and requests
@@ -415,13 +332,13 @@ impl Board {
     /// [`Fresh`](crate::Raised::Fresh) again.
     ///
     /// `Done`, or refused: `BadTarget` for a part above 3. If it is refused, no bit is cleared.
-    pub fn absorb_line(&mut self, line: &mut Line, vp: u8, part: u8) -> Reply {
-        Reply::of(ask!(self, synicboard_absorb_line, &mut line.handle, vp, part))
+    pub fn absorb_line(&mut self, line: &mut Line, vp: Vp, part: u8) -> Reply {
+        Reply::of(ask!(self, synicboard_absorb_line, &mut line.handle, vp.number(), part))
     }
 
     /// [`Board::absorb_line`], and the bits that it cleared, for a host that records a trace.
-    pub fn absorb_line_bits(&mut self, line: &mut Line, vp: u8, part: u8) -> (Reply, u64) {
-        let plain = ask!(self, synicboard_absorb_line, &mut line.handle, vp, part);
+    pub fn absorb_line_bits(&mut self, line: &mut Line, vp: Vp, part: u8) -> (Reply, u64) {
+        let plain = ask!(self, synicboard_absorb_line, &mut line.handle, vp.number(), part);
         (Reply::of(plain), plain.value)
     }
 
@@ -469,8 +386,8 @@ impl Board {
     /// Processor `vp` takes its next vector. Call this when it accepts interrupts.
     ///
     /// `Taken`.
-    pub fn take(&mut self, vp: u8) -> Reply {
-        Reply::of(ask!(self, synicboard_take, vp))
+    pub fn take(&mut self, vp: Vp) -> Reply {
+        Reply::of(ask!(self, synicboard_take, vp.number()))
     }
 
     /// Forwards the vectors that are requested at processor `vp` to a local APIC outside the board (KVM's, say):
@@ -481,18 +398,18 @@ impl Board {
     /// stay, and otherwise there are none afterwards.
     ///
     /// ```
-    /// use synicboard::{Board, Ticket, Vector};
+    /// use synicboard::{Board, Reply, Ticket, Vector, Vp};
     ///
     /// let mut board = Board::open(1, 1, Ticket::new(0)).unwrap();
     /// for vector in [0x41, 0x90] {
-    ///     board.assert(0, Vector::new(vector).unwrap());
+    ///     assert_eq!(board.assert(Vp::ZERO, Vector::new(vector).unwrap()), Reply::Done);
     /// }
-    /// assert_eq!(board.forward(0).vectors, [0, 1 << 1, 1 << 16, 0]);
-    /// assert_eq!(board.next(0), None);
+    /// assert_eq!(board.forward(Vp::ZERO).vectors, [0, 1 << 1, 1 << 16, 0]);
+    /// assert_eq!(board.next(Vp::ZERO), None);
     /// ```
-    pub fn forward(&mut self, vp: u8) -> Forwarded {
+    pub fn forward(&mut self, vp: Vp) -> Forwarded {
         let mut forwarded = sys::synicboard_forwarded { vectors: [0; 4], auto_eoi: [0; 4] };
-        ask!(self, synicboard_forward, vp, &mut forwarded);
+        ask!(self, synicboard_forward, vp.number(), &mut forwarded);
         Forwarded { vectors: forwarded.vectors, auto_eoi: forwarded.auto_eoi }
     }
 
@@ -500,23 +417,23 @@ impl Board {
     /// resumes.
     ///
     /// `Done`, or refused: `AlreadySuspended`.
-    pub fn suspend(&mut self, vp: u8) -> Reply {
-        Reply::of(ask!(self, synicboard_suspend, vp))
+    pub fn suspend(&mut self, vp: Vp) -> Reply {
+        Reply::of(ask!(self, synicboard_suspend, vp.number()))
     }
 
     /// Resumes a suspended processor. This tries no timer: the next tick to a later time does.
     ///
     /// `Done`, or refused: `NotSuspended`.
-    pub fn resume(&mut self, vp: u8) -> Reply {
-        Reply::of(ask!(self, synicboard_resume, vp))
+    pub fn resume(&mut self, vp: Vp) -> Reply {
+        Reply::of(ask!(self, synicboard_resume, vp.number()))
     }
 
     /// Resets processor `vp` to its state at the opening: withdraws its messages in slots and
     /// queues, and resets its registers, local APIC, timers and own two pages. Ports stay open.
     ///
     /// `Done`.
-    pub fn reset(&mut self, vp: u8) -> Reply {
-        Reply::of(ask!(self, synicboard_reset, vp))
+    pub fn reset(&mut self, vp: Vp) -> Reply {
+        Reply::of(ask!(self, synicboard_reset, vp.number()))
     }
 
     /// Sends an interrupt to several processors: requests a vector at each processor of `mask`, lowest
@@ -526,10 +443,15 @@ impl Board {
     pub fn send(&mut self, vector: Vector, mask: u64) -> Reply {
         Reply::of(ask!(self, synicboard_send, vector.number(), mask))
     }
-}
 
-/// Queries, which change nothing.
-impl Board {
+    /// Asserts a source of a processor, as a message or a signal to it would: requests its vector, unless SINTx is
+    /// masked or polling.
+    ///
+    /// `Done`.
+    pub fn assert_source(&mut self, vp: Vp, sint: Sint) -> Reply {
+        Reply::of(ask!(self, synicboard_assert_source, vp.number(), sint.number()))
+    }
+
     /// Moves the clock to `now`, if that is later than the present time, and then performs the event, if there is one.
     /// The buffer has the notices of both, in order. So a host passes its clock with each exit of the guest, and a
     /// register write never comes before the expiries that are due by then.
@@ -538,11 +460,11 @@ impl Board {
     /// found it clear; 0 if the host has no assist pages.
     ///
     /// ```
-    /// use synicboard::{AnswerRoom, Board, Event, Reply, Ticket};
+    /// use synicboard::{AnswerRoom, Board, Event, Reply, Ticket, Vp};
     ///
     /// let (mut board, mut room) = (Board::open(1, 1, Ticket::new(0)).unwrap(), AnswerRoom::new().unwrap());
     /// for (register, value) in [(0x4000_0080, 1), (0x4000_00b1, 10), (0x4000_00b0, 0x1401)] {
-    ///     let answer = board.step(5, Some(&Event::Write { vp: 0, register, value }), 0, &mut room);
+    ///     let answer = board.step(5, Some(&Event::Write { vp: Vp::ZERO, register, value }), 0, &mut room);
     ///     assert_eq!(answer.reply, Some(Reply::Done));
     /// }
     /// assert_eq!(board.alarm(), Some(10));
@@ -562,263 +484,6 @@ impl Board {
         room.set(answer.notices);
         Answer::of(&answer, plain.is_some())
     }
-
-    /// The processors that have a next vector: bit p for processor p.
-    pub fn next_bits(&self) -> u64 {
-        ask!(self, synicboard_next_bits)
-    }
-
-    /// A port, if it is open: its processor, its source and its shape.
-    pub fn port(&self, port: Port) -> Option<(Vp, Sint, PortShape)> {
-        let found = ask!(self, synicboard_port, port.number());
-        let shape = match found.kind {
-            sys::SYNICBOARD_PORT_MESSAGES => PortShape::Messages { buffers: found.buffers },
-            sys::SYNICBOARD_PORT_FLAGS => PortShape::Flags { base: found.base, count: found.count },
-            _ => return None,
-        };
-        Some((Vp::new(found.vp)?, Sint::new(found.sint)?, shape))
-    }
-
-    /// Asserts a source of a processor, as a message or a signal to it would: requests its vector, unless SINTx is
-    /// masked or polling.
-    ///
-    /// `Done`, or refused: `NoSuchProcessor`. `NoEvent` if `sint` is above 15.
-    pub fn assert_source(&mut self, vp: u8, sint: u8) -> Reply {
-        Reply::of(ask!(self, synicboard_assert_source, vp, sint))
-    }
-
-    /// The notices of the last event, in order. There are none if it was refused or raised #GP, or
-    /// before the first event. [`Reply::NoEvent`] is no event: then these are still the notices of
-    /// the event before.
-    pub fn notices(&self) -> Notices<'_> {
-        let count = ask!(self, synicboard_notices, self.room.start(), ROOM);
-        // SAFETY: the library wrote `count` notices, or as many as fit into the buffer, which is
-        // this board's, and a board is not `Sync`.
-        unsafe { self.room.first(count) }
-    }
-
-    /// How many processors are on the board, 1 to 64.
-    pub fn processors(&self) -> u8 {
-        self.processors
-    }
-
-    /// How many guest pages there are, 1 to 64.
-    pub fn pages(&self) -> u8 {
-        self.pages
-    }
-
-    /// The vector that [`take`](Board::take) would take. `None` if there is none, or `vp` is not on
-    /// the board.
-    pub fn next(&self, vp: u8) -> Option<Vector> {
-        Vector::new(ask!(self, synicboard_next, vp))
-    }
-
-    /// Whether a vector is auto-EOI on a processor. `false` if `vp` is not on the board.
-    pub fn is_auto(&self, vp: u8, vector: Vector) -> bool {
-        ask!(self, synicboard_is_auto, vp, vector.number())
-    }
-
-    /// How many messages are queued for a source of a processor. 0 if `vp` is not on the board, or
-    /// `sint` is above 15.
-    pub fn queued(&self, vp: u8, sint: u8) -> u16 {
-        ask!(self, synicboard_queued, vp, sint)
-    }
-
-    /// The local APIC of a processor. `None` if `vp` is not on the board.
-    ///
-    /// ```
-    /// use synicboard::{Board, Reply, Ticket, Vector};
-    ///
-    /// let mut board = Board::open(1, 1, Ticket::new(0)).unwrap();
-    /// let vector = Vector::new(0x41).unwrap();
-    /// assert_eq!(board.assert(0, vector), Reply::Done);
-    /// assert_eq!(board.take(0), Reply::Taken(Some(vector)));
-    /// let lapic = board.lapic(0).unwrap();
-    /// assert_eq!((lapic.requested, lapic.in_service), ([0; 4], [0, 2, 0, 0]));
-    /// assert_eq!((lapic.task_priority, lapic.processor_priority), (0, 0x40));
-    /// ```
-    pub fn lapic(&self, vp: u8) -> Option<LocalApic> {
-        if vp >= self.processors {
-            return None;
-        }
-        let lapic = ask!(self, synicboard_lapic, vp);
-        Some(LocalApic {
-            requested: lapic.requested,
-            in_service: lapic.in_service,
-            task_priority: lapic.task_priority,
-            processor_priority: lapic.processor_priority,
-            is_suspended: lapic.is_suspended,
-        })
-    }
-
-    /// Whether no EOI is required of a processor (TLFS, "EOI Assist"): a vector is in service, and none is
-    /// requested. Its end may wait until the host next asks which vector is next.
-    ///
-    /// ```
-    /// use synicboard::{Board, Ticket, Vector};
-    ///
-    /// let mut board = Board::open(1, 1, Ticket::new(0)).unwrap();
-    /// board.assert(0, Vector::new(0x41).unwrap());
-    /// board.take(0);
-    /// assert!(board.no_eoi_required(0));
-    /// board.assert(0, Vector::new(0x31).unwrap());
-    /// assert!(!board.no_eoi_required(0));
-    /// ```
-    pub fn no_eoi_required(&self, vp: u8) -> bool {
-        ask!(self, synicboard_no_eoi_required, vp)
-    }
-
-    /// The registers and the deadline of a timer, even while its processor is suspended; `None` if the
-    /// processor is not on the board or the index is above 3.
-    ///
-    /// ```
-    /// use synicboard::{Board, Reply, Ticket, msr};
-    ///
-    /// let mut board = Board::open(1, 1, Ticket::new(0)).unwrap();
-    /// assert_eq!(board.write(0, msr::STIMER0_COUNT, 100), Reply::Done);
-    /// assert_eq!(board.write(0, msr::STIMER0_CONFIG, 0x1401), Reply::Done);
-    /// let timer = board.timer(0, 0).unwrap();
-    /// assert_eq!((timer.config, timer.count, timer.due), (0x1401, 100, Some(100)));
-    /// ```
-    pub fn timer(&self, vp: u8, index: u8) -> Option<Timer> {
-        if vp >= self.processors || index > 3 {
-            return None;
-        }
-        let timer = ask!(self, synicboard_timer, vp, index);
-        let deadline = u128::from(timer.high) << 64 | u128::from(timer.low);
-        Some(Timer { config: timer.config, count: timer.count, due: timer.is_due.then_some(deadline) })
-    }
-
-    /// The ticket of the message in the slot of a source; `None` if the slot holds none, as one that the
-    /// guest filled itself, or if there is no such source.
-    pub fn slot_ticket(&self, vp: u8, sint: u8) -> Option<Ticket> {
-        let mut ticket = 0;
-        ask!(self, synicboard_slot, vp, sint, &mut ticket).then_some(Ticket::new(ticket))
-    }
-
-    /// Writes the image of the board to a buffer, as much as fits, and returns the length of the whole.
-    /// An image states how the board differs from a newly opened one, in lines (docs/FORMATS.md of the
-    /// library), and [`restore`](Board::restore) reads it. `None` if an allocation failed; then the buffer
-    /// is unchanged.
-    ///
-    /// ```
-    /// let mut board = synicboard::Board::open(1, 1, synicboard::Ticket::new(5)).unwrap();
-    /// let mut room = [0; 80];
-    /// let length = board.save(&mut room).unwrap();
-    /// assert_eq!(room[..length], *b"image 1\nboard 1 1 5\nlapic 0 0 0 0 0 0 0 0 0 0 running\nend\n");
-    /// ```
-    pub fn save(&mut self, room: &mut [u8]) -> Option<usize> {
-        let end = ask!(self, synicboard_save, room.as_mut_ptr(), room.len());
-        match end.kind {
-            sys::SYNICBOARD_OK => Some(end.length),
-            sys::SYNICBOARD_NO_MEMORY => None,
-            _ => beyond_the_header(&end.kind),
-        }
-    }
-
-    /// Which page a guest sees at a page number.
-    pub fn owner(&self, page: u64) -> Owner {
-        owner_of(&ask!(self, synicboard_owner, page))
-    }
-
-    /// The first page from `from` on at which a guest sees an overlay, with its owner; `None` if there is
-    /// none. From 0 on, and then from the page after each answer, these are all of them, at most two for each
-    /// processor, for a host to map. A write of SIMP or SIEFP, or a reset, may change them.
-    pub fn next_overlay(&self, from: u64) -> Option<(u64, Owner)> {
-        let next = ask!(self, synicboard_next_overlay, from);
-        match owner_of(&next.owner) {
-            Owner::Nothing => None,
-            owner => Some((next.page, owner)),
-        }
-    }
-
-    /// The timer with the earliest deadline, and the deadline in units of 100 ns, even if it is late or not
-    /// ready to expire. `None` if no timer has a deadline. Timers of suspended processors do not count. A deadline above 2^64 - 1 is never reached by a tick.
-    pub fn earliest(&self) -> Option<(u128, TimerId)> {
-        first_due(&ask!(self, synicboard_earliest))
-    }
-
-    /// When to tick next: the least time after the present at which a tick makes a timer expire or skip
-    /// periods, in units of 100 ns. A host arms its timer for it after each event. `None` if no tick does.
-    pub fn alarm(&self) -> Option<Moment> {
-        let next = ask!(self, synicboard_alarm);
-        next.is_set.then_some(next.moment)
-    }
-
-    /// The timer with the earliest deadline that is later than `moment`, and the deadline. A timer that is late
-    /// by more than a period is not among them: arm the host's timer for the [`alarm`](Board::alarm).
-    pub fn earliest_after(&self, moment: Moment) -> Option<(u128, TimerId)> {
-        first_due(&ask!(self, synicboard_earliest_after, moment))
-    }
-
-    /// Updates a view of the board, and returns what differs from before: which threads of
-    /// processors to kick, and whether to arm the host's timer again.
-    pub fn update(&self, view: &mut View) -> Changes {
-        Changes(ask!(self, synicboard_update, &mut view.0))
-    }
-
-    /// The same for a board of up to 64 processors. It asks for each of 64; for a board of at most eight use
-    /// [`update`](Board::update).
-    pub fn update_wide(&self, view: &mut WideView) -> WideChanges {
-        WideChanges(ask!(self, synicboard_update_wide, &mut view.0))
-    }
-
-    /// Updates the owners of pages 0 to 63, and returns those whose owner differs from before, for a
-    /// host to map again: bit i for page i. A write of SIMP or SIEFP, or a reset, may change owners.
-    /// An overlay of a sparse board may be at a page above 63: use
-    /// [`next_overlay`](Board::next_overlay) there.
-    pub fn update_owners(&self, owners: &mut Owners) -> u64 {
-        ask!(self, synicboard_update_owners, &mut owners.0)
-    }
-
-    /// The present time, in units of 100 ns.
-    pub fn moment(&self) -> Moment {
-        ask!(self, synicboard_moment)
-    }
-
-    /// The ticket that the next accepted message gets.
-    pub fn next_ticket(&self) -> Ticket {
-        Ticket::new(ask!(self, synicboard_next_ticket))
-    }
-
-    /// The message page of a processor, whether or not a guest sees it: the slot of source s is its
-    /// bytes 256 s to 256 s + 255. `None` if `vp` is not on the board.
-    pub fn message_page(&self, vp: u8) -> Option<&[u8; PAGE_BYTES]> {
-        lent!(self, synicboard_message_page, vp)
-    }
-
-    /// The event flags page of a processor, whether or not a guest sees it: the flags of source s
-    /// are its bytes 256 s to 256 s + 255. `None` if `vp` is not on the board.
-    pub fn flag_page(&self, vp: u8) -> Option<&[u8; PAGE_BYTES]> {
-        lent!(self, synicboard_flag_page, vp)
-    }
-
-    /// A guest page, without the overlays that obscure it. `None` if there is no such page.
-    pub fn guest_page(&self, number: u64) -> Option<&[u8; PAGE_BYTES]> {
-        lent!(self, synicboard_guest_page, number)
-    }
-}
-
-/// The owner of a page.
-pub(crate) fn owner_of(owner: &sys::synicboard_page_owner) -> Owner {
-    let meant = match owner.kind {
-        sys::SYNICBOARD_OWNER_NOTHING => Some(Owner::Nothing),
-        sys::SYNICBOARD_OWNER_GUEST => Some(Owner::Guest),
-        sys::SYNICBOARD_OWNER_MESSAGES => Vp::new(owner.vp).map(Owner::Sim),
-        sys::SYNICBOARD_OWNER_FLAGS => Vp::new(owner.vp).map(Owner::Sief),
-        _ => None,
-    };
-    meant.unwrap_or_else(|| beyond_the_header(owner))
-}
-
-/// The earliest deadline and its timer.
-pub(crate) fn first_due(due: &sys::synicboard_due) -> Option<(u128, TimerId)> {
-    if !due.is_due {
-        return None;
-    }
-    let timer = Vp::new(due.vp).and_then(|vp| TimerId::new(vp, due.timer));
-    let timer = timer.unwrap_or_else(|| beyond_the_header(due));
-    Some((u128::from(due.high) << 64 | u128::from(due.low), timer))
 }
 
 impl Drop for Board {

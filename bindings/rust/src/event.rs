@@ -1,13 +1,13 @@
 //! The events of a board.
 
-use crate::{sys, Moment, Port, Vector};
+use crate::{sys, Moment, Port, Sint, Vector, Vp};
 use core::fmt;
 use core::ops::Deref;
 
 /// An event of a board, for [`Board::perform`](crate::Board::perform).
 ///
-/// Numbers of processors, sources, registers and flags are plain integers, and the board refuses those
-/// that are out of range, as it does ports.
+/// Numbers of registers, flags, buffers and parts are plain integers, and the board refuses those that are out of
+/// range, as it does ports and processors that it has not.
 #[derive(Clone, Copy, PartialEq, Eq, Debug)]
 // A payload is stored in its event, so an event needs no allocation.
 #[allow(clippy::large_enum_variant)]
@@ -15,24 +15,24 @@ use core::ops::Deref;
 pub enum Event {
     /// Opens a port to a source of a processor.
     OpenPort {
-        /// The port: Port::new(0) to 15, or one of four for each processor of a sparse board.
+        /// The port.
         port: Port,
         /// The processor.
-        vp: u8,
-        /// The source, 0 to 15.
-        sint: u8,
+        vp: Vp,
+        /// The source.
+        sint: Sint,
         /// Its shape.
         shape: PortShape,
     },
     /// Closes a port.
     ClosePort {
-        /// The port: Port::new(0) to 15, or one of four for each processor of a sparse board.
+        /// The port.
         port: Port,
     },
     /// A guest writes a register.
     Write {
         /// The processor.
-        vp: u8,
+        vp: Vp,
         /// The number of the register.
         register: u32,
         /// The value.
@@ -41,13 +41,13 @@ pub enum Event {
     /// A guest reads a register.
     Read {
         /// The processor.
-        vp: u8,
+        vp: Vp,
         /// The number of the register.
         register: u32,
     },
     /// Posts a message to a port.
     Post {
-        /// The port: Port::new(0) to 15, or one of four for each processor of a sparse board.
+        /// The port.
         port: Port,
         /// The type of the message: not 0, and bit 31 is clear.
         kind: u32,
@@ -56,7 +56,7 @@ pub enum Event {
     },
     /// Signals an event flag of a port.
     Signal {
-        /// The port: Port::new(0) to 15, or one of four for each processor of a sparse board.
+        /// The port.
         port: Port,
         /// The number of the flag within the port, from 0 on.
         flag: u16,
@@ -64,14 +64,14 @@ pub enum Event {
     /// A device requests a vector at the local APIC of a processor.
     Assert {
         /// The processor.
-        vp: u8,
+        vp: Vp,
         /// The vector.
         vector: Vector,
     },
     /// Requests posted vectors at the local APIC of a processor.
     Absorb {
         /// The processor.
-        vp: u8,
+        vp: Vp,
         /// Which group of 64 vectors, 0 to 3.
         part: u8,
         /// Bit i is vector 64 * `part` + i. Vectors below 16 are ignored.
@@ -99,22 +99,22 @@ pub enum Event {
     /// A processor takes its next vector.
     Take {
         /// The processor.
-        vp: u8,
+        vp: Vp,
     },
     /// Suspends a processor.
     Suspend {
         /// The processor.
-        vp: u8,
+        vp: Vp,
     },
     /// Resumes a suspended processor.
     Resume {
         /// The processor.
-        vp: u8,
+        vp: Vp,
     },
     /// Resets a processor.
     Reset {
         /// The processor.
-        vp: u8,
+        vp: Vp,
     },
     /// Sends an interrupt to several processors.
     Send {
@@ -156,30 +156,35 @@ impl Event {
     pub(crate) fn to_plain(self) -> sys::synicboard_event {
         match self {
             Event::OpenPort { port, vp, sint, shape } => {
-                sys::synicboard_event { port: port.number(), vp, sint, ..shape.to_plain() }
+                let (port, vp, sint) = (port.number(), vp.number(), sint.number());
+                sys::synicboard_event { port, vp, sint, ..shape.to_plain() }
             }
             Event::ClosePort { port } => plain!(SYNICBOARD_CLOSE_PORT, port: port.number()),
             Event::Write { vp, register, value } => {
-                plain!(SYNICBOARD_WRITE, vp: vp, msr: register, value: value)
+                plain!(SYNICBOARD_WRITE, vp: vp.number(), msr: register, value: value)
             }
-            Event::Read { vp, register } => plain!(SYNICBOARD_READ, vp: vp, msr: register),
+            Event::Read { vp, register } => plain!(SYNICBOARD_READ, vp: vp.number(), msr: register),
             Event::Post { port, kind, payload } => {
                 let (length, bytes) = payload.padded();
                 plain!(SYNICBOARD_POST, port: port.number(), message_type: kind, length: length, bytes: bytes)
             }
             Event::Signal { port, flag } => plain!(SYNICBOARD_SIGNAL, port: port.number(), flag: flag),
-            Event::Assert { vp, vector } => plain!(SYNICBOARD_ASSERT, vp: vp, vector: vector.number()),
-            Event::Absorb { vp, part, bits } => plain!(SYNICBOARD_ABSORB, vp: vp, part: part, value: bits),
+            Event::Assert { vp, vector } => {
+                plain!(SYNICBOARD_ASSERT, vp: vp.number(), vector: vector.number())
+            }
+            Event::Absorb { vp, part, bits } => {
+                plain!(SYNICBOARD_ABSORB, vp: vp.number(), part: part, value: bits)
+            }
             Event::Store { address, bytes } => {
                 let (length, bytes) = bytes.padded();
                 plain!(SYNICBOARD_STORE, address: address, length: length, bytes: bytes)
             }
             Event::Load { address, length } => plain!(SYNICBOARD_LOAD, address: address, length: length),
             Event::Tick { moment } => plain!(SYNICBOARD_TICK, moment: moment),
-            Event::Take { vp } => plain!(SYNICBOARD_TAKE, vp: vp),
-            Event::Suspend { vp } => plain!(SYNICBOARD_SUSPEND, vp: vp),
-            Event::Resume { vp } => plain!(SYNICBOARD_RESUME, vp: vp),
-            Event::Reset { vp } => plain!(SYNICBOARD_RESET, vp: vp),
+            Event::Take { vp } => plain!(SYNICBOARD_TAKE, vp: vp.number()),
+            Event::Suspend { vp } => plain!(SYNICBOARD_SUSPEND, vp: vp.number()),
+            Event::Resume { vp } => plain!(SYNICBOARD_RESUME, vp: vp.number()),
+            Event::Reset { vp } => plain!(SYNICBOARD_RESET, vp: vp.number()),
             Event::Send { vector, mask } => plain!(SYNICBOARD_SEND, vector: vector.number(), value: mask),
         }
     }

@@ -10,17 +10,18 @@
 //! and also records its history, for traces. Devices raise vectors without the lock through a [`Line`].
 //! `docs/EMBEDDING.md` describes the run loop of a host, and `examples/rust/loop.rs` is one.
 //!
-//! Times are in units of 100 ns. A [`Port`], a [`Ticket`] and a [`Vector`] have types of their own. Processors,
-//! sources, registers and pages are plain integers in arguments, which the board checks; in results their range
-//! is in the type.
+//! Times are in units of 100 ns. A processor is a [`Vp`], a source a [`Sint`], a port a [`Port`], a ticket a
+//! [`Ticket`] and a vector a [`Vector`], so none of them passes for another. Registers, flags and pages are plain
+//! integers, which the board checks.
 //!
-//! The library is linked from the folder that the environment variable `SYNICBOARD_LIB_DIR` names
-//! when the crate is built, absolute or relative to the crate's folder, or else from `build` at the
-//! root of the repository. If the library has another version than the crate, and returns a value
-//! that the crate does not know, the call panics.
+//! The crate [`sys`] (`synicboard-sys`) has the declarations of the C header and links the library, from the folder
+//! that the environment variable `SYNICBOARD_LIB_DIR` names when it is built, absolute or relative to the folder of
+//! this crate; or else from `build` at the root of the repository; or else from where pkg-config finds it. If the
+//! library has another version than the crate, and returns a value that the crate does not know, the call panics.
 
 #![no_std]
 #![deny(missing_docs)]
+#![forbid(unsafe_op_in_unsafe_fn)]
 #![deny(clippy::undocumented_unsafe_blocks)]
 
 extern crate alloc;
@@ -28,27 +29,31 @@ extern crate alloc;
 mod answer;
 mod board;
 mod event;
+mod faults;
 mod line;
 mod live;
 pub mod msr;
 mod notice;
+mod queries;
 mod recorded;
 mod reply;
-pub mod sys;
 mod terms;
 mod text;
 mod tsc;
 mod view;
 
 pub use answer::{Answer, AnswerRoom};
-pub use board::{Board, Forwarded, LocalApic, OpenFault, RestoreFault, Timer, PAGE_BYTES};
+pub use board::{Board, Forwarded, PAGE_BYTES};
 pub use event::{Bytes, Bytes8, Event, PayloadBytes, PortShape};
+pub use faults::{OpenFault, RestoreFault};
 pub use line::{Line, Raised, SplitFault};
 pub use live::{LiveBoard, LiveReply};
 pub use notice::{Notice, Notices, MOST_NOTICES};
+pub use queries::{LocalApic, Timer};
 pub use recorded::{NoEntry, NoticeRoom, RecordedBoard, Settled};
 pub use reply::{EventFault, Refusal, Reply};
-pub use terms::{Moment, OutOfRange, Owner, Port, Sint, Ticket, TimerId, Vector, Vp};
+pub use synicboard_sys as sys;
+pub use terms::{Moment, NumberFault, OutOfRange, Owner, Port, Sint, Ticket, TimerId, Vector, Vp};
 pub use text::{check, format_entry, replay, End, FormatFault, Verdict};
 pub use tsc::TscPage;
 pub use view::{Changes, Owners, View, WideChanges, WideView};

@@ -1,6 +1,6 @@
 //! Lines, which raise vectors without the lock of a board.
 
-use crate::{beyond_the_header, sys, OpenFault, Vector};
+use crate::{beyond_the_header, sys, OpenFault, Vector, Vp};
 use core::error::Error;
 use core::fmt;
 
@@ -53,7 +53,7 @@ pub enum Raised {
 /// ```
 /// use std::sync::Mutex;
 /// use std::thread;
-/// use synicboard::{Board, Line, Raised, Reply, Ticket, Vector};
+/// use synicboard::{Board, Line, Raised, Reply, Ticket, Vector, Vp};
 ///
 /// # fn main() -> Result<(), Box<dyn std::error::Error>> {
 /// let board = Mutex::new(Board::open(1, 1, Ticket::new(0))?);
@@ -65,15 +65,15 @@ pub enum Raised {
 ///     let processor = thread::current();
 ///     // The device never waits for the lock of the board.
 ///     scope.spawn(move || {
-///         if of_device.raise(0, vector) == Some(Raised::Fresh) {
+///         if of_device.raise(Vp::ZERO, vector) == Some(Raised::Fresh) {
 ///             processor.unpark();
 ///         }
 ///     });
 ///     // This is the thread of processor 0. The vectors 40 to 7f are those of part 1.
 ///     loop {
 ///         let mut board = board.lock().unwrap();
-///         assert_eq!(board.absorb_line(&mut line, 0, 1), Reply::Done);
-///         if let Reply::Taken(Some(taken)) = board.take(0) {
+///         assert_eq!(board.absorb_line(&mut line, Vp::ZERO, 1), Reply::Done);
+///         if let Reply::Taken(Some(taken)) = board.take(Vp::ZERO) {
 ///             assert_eq!(taken, vector);
 ///             break;
 ///         }
@@ -161,9 +161,9 @@ impl Line {
     /// Never blocks and never allocates.
     ///
     /// `None`, and no effect, if the words do not have the processor.
-    #[must_use = "who raised a fresh vector kicks its processor"]
-    pub fn raise(&mut self, vp: u8, vector: Vector) -> Option<Raised> {
-        match ask!(self, synicboard_raise, vp, vector.number()) {
+    #[must_use = "if the vector is fresh, its processor is kicked"]
+    pub fn raise(&mut self, vp: Vp, vector: Vector) -> Option<Raised> {
+        match ask!(self, synicboard_raise, vp.number(), vector.number()) {
             sys::SYNICBOARD_NOT_RAISED => None,
             sys::SYNICBOARD_FRESH => Some(Raised::Fresh),
             sys::SYNICBOARD_ALREADY => Some(Raised::Already),

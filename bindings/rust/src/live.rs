@@ -12,6 +12,7 @@ use core::ptr;
 const MOST_PAGES: usize = 128;
 
 /// The reply to an event on a board with live pages.
+#[must_use = "an event that was refused has changed nothing"]
 #[derive(Clone, Copy, PartialEq, Eq, Debug)]
 pub struct LiveReply {
     /// The reply to the event itself.
@@ -29,24 +30,25 @@ pub struct LiveReply {
 /// then the event.
 ///
 /// ```
-/// use synicboard::{Board, Event, Notice, PayloadBytes, Port, PortShape, Reply, Ticket, Vp};
+/// use synicboard::{Board, Event, Notice, PayloadBytes, Port, PortShape, Reply, Sint, Ticket, Vp};
 ///
 /// let mut board = Board::open_sparse(1, Ticket::new(0)).unwrap().into_live().unwrap();
 /// for (register, value) in [(0x4000_0080, 1), (0x4000_0083, 0x2001), (0x4000_0092, 0x50)] {
-///     assert_eq!(board.perform(&Event::Write { vp: 0, register, value }).reply, Reply::Done);
+///     assert_eq!(board.perform(&Event::Write { vp: Vp::ZERO, register, value }).reply, Reply::Done);
 /// }
 /// let shape = PortShape::Messages { buffers: 2 };
-/// assert_eq!(board.perform(&Event::OpenPort { port: Port::new(3), vp: 0, sint: 2, shape }).reply, Reply::Done);
+/// let open = Event::OpenPort { port: Port::new(3), vp: Vp::ZERO, sint: Sint::SINT2, shape };
+/// assert_eq!(board.perform(&open).reply, Reply::Done);
 /// let payload = PayloadBytes::new(b"hello").unwrap();
 /// let post = Event::Post { port: Port::new(3), kind: 1, payload };
 /// assert_eq!(board.perform(&post).reply, Reply::Accepted(Ticket::new(0)));
 ///
 /// // The guest, on another processor, reads the message and empties the slot.
-/// let slot = board.message_page(Vp::new(0).unwrap()).wrapping_add(0x200).cast::<u32>();
+/// let slot = board.message_page(Vp::ZERO).wrapping_add(0x200).cast::<u32>();
 /// assert_eq!(unsafe { slot.read_volatile() }, 1);
 /// unsafe { slot.write_volatile(0) };
 ///
-/// assert_eq!(board.observe(0), Reply::Done);
+/// assert_eq!(board.observe(Vp::ZERO), Reply::Done);
 /// assert!(matches!(board.notices().next(), Some(Notice::Consumed { ticket, .. }) if ticket == Ticket::new(0)));
 /// ```
 pub struct LiveBoard {
@@ -89,25 +91,25 @@ impl LiveBoard {
     }
 
     /// [`Board::absorb_line`].
-    pub fn absorb_line(&mut self, line: &mut Line, vp: u8, part: u8) -> Reply {
-        Reply::of(ask!(self.board, synicboard_absorb_line, &mut line.handle, vp, part))
+    pub fn absorb_line(&mut self, line: &mut Line, vp: Vp, part: u8) -> Reply {
+        Reply::of(ask!(self.board, synicboard_absorb_line, &mut line.handle, vp.number(), part))
     }
 
     /// [`Board::forward`], which accesses no live page.
-    pub fn forward(&mut self, vp: u8) -> Forwarded {
+    pub fn forward(&mut self, vp: Vp) -> Forwarded {
         self.board.forward(vp)
     }
 
     /// Looks at the message slots of a processor, if the guest sees its message page: the notices are those of
     /// the messages that the guest has consumed.
-    pub fn observe(&mut self, vp: u8) -> Reply {
-        Reply::of(ask!(self.board, synicboard_observe, vp))
+    pub fn observe(&mut self, vp: Vp) -> Reply {
+        Reply::of(ask!(self.board, synicboard_observe, vp.number()))
     }
 
     /// Looks at all words of both live pages of a processor that the guest sees, so that the board's own pages have
     /// what the guest has stored. [`save`](LiveBoard::save) does the same of each processor.
-    pub fn observe_all(&mut self, vp: u8) -> Reply {
-        Reply::of(ask!(self.board, synicboard_observe_all, vp))
+    pub fn observe_all(&mut self, vp: Vp) -> Reply {
+        Reply::of(ask!(self.board, synicboard_observe_all, vp.number()))
     }
 
     /// [`Board::step`] on a board with live pages.
@@ -123,6 +125,7 @@ impl LiveBoard {
 
     /// [`Board::save`]. It looks at all words of the live pages that the guest sees first, so the image has what the
     /// guest stored before; the notices are those of these stores. Stop the guest first.
+    #[must_use = "the image may not fit, or not be there"]
     pub fn save(&mut self, room: &mut [u8]) -> Option<usize> {
         self.board.save(room)
     }
@@ -136,7 +139,8 @@ impl LiveBoard {
         unsafe { self.room.first(count) }
     }
 
-    /// The board, for its queries. The pages that it returns are its own, as it knows them.
+    /// The board, for its queries. The pages that it returns are its own, as it knows them, and its notices are the
+    /// first [`MOST_NOTICES`](crate::MOST_NOTICES) of [`LiveBoard::notices`].
     pub fn board(&self) -> &Board {
         &self.board
     }

@@ -9,7 +9,7 @@ use core::marker::PhantomData;
 use core::mem::MaybeUninit;
 use core::ops::Range;
 
-/// No event emits more notices than this. Only a reset emits more than 192.
+/// No event on a board without live pages emits more notices than this. Only a reset emits more than 192.
 pub const MOST_NOTICES: usize = sys::SYNICBOARD_MOST_NOTICES;
 
 /// Something that an event did, in addition to its reply.
@@ -187,6 +187,7 @@ impl LiveRoom {
 
 /// The notices of one event, in order. They borrow the board, so there is no other event while they
 /// are held.
+#[must_use = "notices are read from the board only here"]
 #[derive(Clone)]
 pub struct Notices<'board> {
     start: *const sys::synicboard_notice,

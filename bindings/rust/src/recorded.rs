@@ -1,8 +1,10 @@
 //! A board with a lock and a history, for several threads.
 
-use crate::board::first_due;
 use crate::notice::Room;
-use crate::{sys, Event, Line, Notices, OpenFault, Reply, Ticket, TimerId, Vector, Verdict, MOST_NOTICES};
+use crate::queries::first_due;
+use crate::{
+    sys, Event, Line, Notices, OpenFault, Reply, Ticket, TimerId, Vector, Verdict, Vp, MOST_NOTICES,
+};
 use core::cell::UnsafeCell;
 use core::error::Error;
 use core::fmt;
@@ -52,6 +54,7 @@ impl fmt::Debug for NoticeRoom {
 }
 
 /// The result of settling a history.
+#[must_use = "the trace may not fit, or not be there"]
 #[derive(Clone, Copy, PartialEq, Eq, Debug)]
 pub struct Settled {
     /// Legal, with the number of its entries, unless an allocation failed.
@@ -69,14 +72,14 @@ pub struct Settled {
 ///
 /// ```
 /// use std::thread;
-/// use synicboard::{Event, NoticeRoom, RecordedBoard, Ticket, Verdict};
+/// use synicboard::{Event, NoticeRoom, RecordedBoard, Ticket, Verdict, Vp};
 ///
 /// # fn main() -> Result<(), synicboard::OpenFault> {
 /// let board = RecordedBoard::open(2, 1, Ticket::new(0))?;
 /// thread::scope(|scope| {
-///     for vp in 0..2 {
+///     for vp in Vp::below(2) {
 ///         let board = &board;
-///         scope.spawn(move || board.act(vp, &Event::Take { vp }, &mut NoticeRoom::new()));
+///         scope.spawn(move || board.act(vp.number(), &Event::Take { vp }, &mut NoticeRoom::new()));
 ///     }
 /// });
 /// let settled = board.settle(&mut []);
@@ -149,19 +152,19 @@ impl RecordedBoard {
         &self,
         actor: u8,
         line: &mut Line,
-        vp: u8,
+        vp: Vp,
         part: u8,
         room: &mut NoticeRoom,
     ) -> Result<(Reply, u64), NoEntry> {
         let (line, start) = (&mut line.handle, room.room.start());
-        let plain = ask!(self, synicboard_act_absorb, actor, line, vp, part, start, MOST_NOTICES);
+        let plain = ask!(self, synicboard_act_absorb, actor, line, vp.number(), part, start, MOST_NOTICES);
         answered(plain, room).map(|reply| (reply, plain.value))
     }
 
     /// The next vector of a processor, if it has one.
-    pub fn next(&self, vp: u8) -> Option<Vector> {
+    pub fn next(&self, vp: Vp) -> Option<Vector> {
         // SAFETY: the pointer is an open board whose lock is held.
-        self.looked_at(|board| Vector::new(unsafe { sys::synicboard_next(board, vp) }))
+        self.looked_at(|board| Vector::new(unsafe { sys::synicboard_next(board, vp.number()) }))
     }
 
     /// The timer with the earliest deadline, and the deadline.

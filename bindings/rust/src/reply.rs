@@ -1,6 +1,6 @@
 //! Replies.
 
-use crate::{beyond_the_header, sys, Bytes8, Ticket, Vector};
+use crate::{beyond_the_header, sys, Bytes8, OutOfRange, Ticket, Vector};
 use core::error::Error;
 use core::ffi::CStr;
 use core::fmt;
@@ -45,11 +45,11 @@ impl Reply {
     /// For `?`: whether the event was performed.
     ///
     /// ```
-    /// use synicboard::{Board, EventFault, Port, Refusal, Ticket};
+    /// use synicboard::{Board, EventFault, Port, Refusal, Sint, Ticket, Vp};
     ///
     /// fn set_up(board: &mut Board) -> Result<Ticket, EventFault> {
-    ///     board.write(0, 0x4000_0080, 1).done()?;
-    ///     board.open_message_port(Port::new(3), 0, 2, 2).done()?;
+    ///     board.write(Vp::ZERO, 0x4000_0080, 1).done()?;
+    ///     board.open_message_port(Port::new(3), Vp::ZERO, Sint::SINT2, 2).done()?;
     ///     board.post(Port::new(3), 1, b"hello").ticket()
     /// }
     ///
@@ -208,6 +208,13 @@ pub enum EventFault {
     NoEvent,
 }
 
+impl From<OutOfRange> for EventFault {
+    /// A processor, a source or a vector out of range is in no event.
+    fn from(_: OutOfRange) -> EventFault {
+        EventFault::NoEvent
+    }
+}
+
 impl fmt::Display for EventFault {
     fn fmt(&self, formatter: &mut fmt::Formatter<'_>) -> fmt::Result {
         match self {
@@ -238,8 +245,7 @@ pub enum Refusal {
     PortOpen = sys::SYNICBOARD_PORT_OPEN,
     /// A post to a port for event flags, or a signal to one for messages.
     WrongKind = sys::SYNICBOARD_WRONG_KIND,
-    /// No such processor, a source above 15, or buffers, base or count out of range; for an absorb,
-    /// a part above 3.
+    /// No such processor, or buffers, base or count out of range; for an absorb, a part above 3.
     BadTarget = sys::SYNICBOARD_BAD_TARGET,
     /// The message type is 0 or has bit 31 set.
     BadType = sys::SYNICBOARD_BAD_TYPE,

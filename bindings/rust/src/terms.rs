@@ -1,4 +1,4 @@
-//! Numbers whose range is in the type.
+//! Numbers with types of their own, so that none passes for another.
 
 use core::error::Error;
 use core::fmt;
@@ -13,8 +13,8 @@ pub type Moment = u64;
 #[derive(Clone, Copy, PartialEq, Eq, PartialOrd, Ord, Hash, Debug, Default)]
 pub struct Ticket(u64);
 
-/// The number of a port: Port::new(0) to 15, or one of four for each processor of a sparse board. The board refuses any
-/// other.
+/// The number of a port: 0 to 15, or, on a sparse board of more than four processors, below four times their number.
+/// The board refuses any other.
 #[derive(Clone, Copy, PartialEq, Eq, PartialOrd, Ord, Hash, Debug, Default)]
 pub struct Port(u8);
 
@@ -64,11 +64,32 @@ macro_rules! any_number {
 any_number!(Ticket, u64);
 any_number!(Port, u8);
 
-/// A virtual processor, 0 to 63.
+/// A virtual processor, 0 to 63. A board with fewer refuses the others, and its queries find nothing of them.
+///
+/// ```
+/// use synicboard::{Board, Refusal, Reply, Ticket, Vp};
+///
+/// const SECOND: Vp = Vp::new(1).unwrap();
+/// assert_eq!((Vp::new(64), "1".parse()), (None, Ok(SECOND)));
+///
+/// let mut board = Board::open(1, 1, Ticket::new(0)).unwrap();
+/// for vp in board.vps() {
+///     assert_eq!(board.next(vp), None);
+/// }
+/// assert_eq!(board.take(SECOND), Reply::Refused(Refusal::NoSuchProcessor));
+/// ```
 #[derive(Clone, Copy, PartialEq, Eq, PartialOrd, Ord, Hash, Debug, Default)]
 pub struct Vp(u8);
 
 impl Vp {
+    /// Processor 0.
+    pub const ZERO: Vp = Vp(0);
+
+    /// The processors below `count`, in order; at most the 64 that there are.
+    pub fn below(count: u8) -> impl DoubleEndedIterator<Item = Vp> + ExactSizeIterator + Clone {
+        (0..count.min(64)).map(Vp)
+    }
+
     /// The processor with this number; `None` above 63.
     pub const fn new(number: u8) -> Option<Vp> {
         if number < 64 {
@@ -82,13 +103,48 @@ impl Vp {
     pub const fn number(self) -> u8 {
         self.0
     }
+
+    /// Its bit in a number that has a bit for each processor.
+    pub const fn bit(self) -> u64 {
+        1 << self.0
+    }
 }
 
 /// A synthetic interrupt source of a processor, SINT0 to SINT15.
+///
+/// ```
+/// use synicboard::Sint;
+///
+/// assert_eq!((Sint::new(2), Sint::new(16)), (Some(Sint::SINT2), None));
+/// assert_eq!(("2".parse(), "SINT2".parse()), (Ok(Sint::SINT2), Ok(Sint::SINT2)));
+/// ```
+///
+/// A source is not accepted as a processor:
+///
+/// ```compile_fail,E0308
+/// # use synicboard::{Board, Port, Sint, Ticket, Vp};
+/// # let mut board = Board::open(1, 1, Ticket::new(0)).unwrap();
+/// board.open_message_port(Port::new(3), Sint::SINT2, Vp::ZERO, 2).done(); // the processor comes first
+/// ```
 #[derive(Clone, Copy, PartialEq, Eq, PartialOrd, Ord, Hash, Debug)]
 pub struct Sint(u8);
 
+/// Names each source, and lists all.
+macro_rules! sources {
+    ($($name:ident $number:literal),+) => {
+        $(#[doc = concat!("Source ", $number, ".")] pub const $name: Sint = Sint($number);)+
+
+        /// All sources, in order.
+        pub const ALL: [Sint; 16] = [$(Sint::$name),+];
+    };
+}
+
 impl Sint {
+    sources!(
+        SINT0 0, SINT1 1, SINT2 2, SINT3 3, SINT4 4, SINT5 5, SINT6 6, SINT7 7,
+        SINT8 8, SINT9 9, SINT10 10, SINT11 11, SINT12 12, SINT13 13, SINT14 14, SINT15 15
+    );
+
     /// The source with this number; `None` above 15.
     pub const fn new(number: u8) -> Option<Sint> {
         if number < 16 {
@@ -104,7 +160,7 @@ impl Sint {
     }
 }
 
-/// An interrupt vector, 16 to 255.
+/// An interrupt vector, 16 to 255. Its text is in hexadecimal.
 #[derive(Clone, Copy, PartialEq, Eq, PartialOrd, Ord, Hash, Debug)]
 pub struct Vector(NonZeroU8);
 
@@ -176,14 +232,57 @@ impl fmt::Display for OutOfRange {
 
 impl Error for OutOfRange {}
 
+/// Why a text is no processor, source or vector.
+#[derive(Clone, PartialEq, Eq, Debug)]
+#[non_exhaustive]
+pub enum NumberFault {
+    /// It is no number, or one of more than 8 bits.
+    NoNumber(ParseIntError),
+    /// The number is out of range.
+    OutOfRange(OutOfRange),
+}
+
+impl fmt::Display for NumberFault {
+    fn fmt(&self, formatter: &mut fmt::Formatter<'_>) -> fmt::Result {
+        match self {
+            NumberFault::NoNumber(fault) => fault.fmt(formatter),
+            NumberFault::OutOfRange(fault) => fault.fmt(formatter),
+        }
+    }
+}
+
+impl Error for NumberFault {
+    fn source(&self) -> Option<&(dyn Error + 'static)> {
+        match self {
+            NumberFault::NoNumber(fault) => Some(fault),
+            NumberFault::OutOfRange(fault) => Some(fault),
+        }
+    }
+}
+
 /// How a number with a range is read and printed.
 macro_rules! number {
-    ($kind:ident, $form:literal) => {
+    ($kind:ident, $form:literal, $read:expr) => {
         impl TryFrom<u8> for $kind {
             type Error = OutOfRange;
 
             fn try_from(number: u8) -> Result<$kind, OutOfRange> {
                 $kind::new(number).ok_or(OutOfRange(number))
+            }
+        }
+
+        impl From<$kind> for u8 {
+            fn from(named: $kind) -> u8 {
+                named.number()
+            }
+        }
+
+        impl FromStr for $kind {
+            type Err = NumberFault;
+
+            fn from_str(text: &str) -> Result<$kind, NumberFault> {
+                let read: fn(&str) -> Result<u8, ParseIntError> = $read;
+                $kind::try_from(read(text).map_err(NumberFault::NoNumber)?).map_err(NumberFault::OutOfRange)
             }
         }
 
@@ -195,6 +294,7 @@ macro_rules! number {
     };
 }
 
-number!(Vp, "{}");
-number!(Sint, "SINT{}");
-number!(Vector, "{:02x}");
+number!(Vp, "{}", str::parse);
+// With or without the letters.
+number!(Sint, "SINT{}", |text| text.strip_prefix("SINT").unwrap_or(text).parse());
+number!(Vector, "{:02x}", |text| u8::from_str_radix(text, 16));

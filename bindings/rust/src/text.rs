@@ -5,6 +5,7 @@ use core::error::Error;
 use core::fmt;
 
 /// How a replay ended.
+#[must_use = "the output may not fit, or not be there"]
 #[derive(Clone, Copy, PartialEq, Eq, Debug)]
 pub enum End {
     /// No line is wrong.
@@ -53,6 +54,7 @@ pub fn replay(script: &[u8], room: &mut [u8]) -> End {
 }
 
 /// The verdict on a trace.
+#[must_use]
 #[derive(Clone, Copy, PartialEq, Eq, Debug)]
 pub enum Verdict {
     /// It is the trace of a legal history.
@@ -129,11 +131,15 @@ impl Error for FormatFault {}
 /// Threads that share a board with a lock of their own can record a trace this way, in the order in
 /// which they hold the lock. `actor` is the number of the thread. Allocates the lines, and frees them.
 ///
+/// # Errors
+///
+/// [`FormatFault::NoEvent`] if the reply is [`Reply::NoEvent`], [`FormatFault::Memory`] if an allocation fails.
+///
 /// ```
-/// use synicboard::{Board, Event, Ticket, format_entry};
+/// use synicboard::{Board, Event, Ticket, Vp, format_entry};
 ///
 /// let mut board = Board::open(1, 1, Ticket::new(0)).unwrap();
-/// let event = Event::Take { vp: 0 };
+/// let event = Event::Take { vp: Vp::ZERO };
 /// let reply = board.perform(&event);
 /// let mut room = [0; 535];
 /// let length = format_entry(7, &event, &reply, &mut room).unwrap();

@@ -22,6 +22,7 @@ impl TscPage {
     }
 
     /// The page of a guest that continues: the same scale, and the time is `time` when the TSC is `tsc`.
+    #[must_use = "this page stays as it is"]
     pub fn moved(self, tsc: u64, time: Moment) -> TscPage {
         // SAFETY: as in `new`.
         TscPage(unsafe { synicboard_tsc_page_moved(self.0, tsc, time) })
@@ -33,8 +34,8 @@ impl TscPage {
         unsafe { synicboard_tsc_time(self.0, tsc) }
     }
 
-    /// The first TSC from which on the time is at least `time`, as long as it does not wrap: what a host sets a timer of
-    /// its TSC to for an alarm. 0 if that was before the TSC was 0, and the greatest number if it never is.
+    /// The first TSC from which on the time is at least `time`, as long as it does not wrap: what a host sets a timer
+    /// of its TSC to for an alarm. 0 if that was before the TSC was 0, and the greatest number if it never is.
     pub fn until(self, time: Moment) -> u64 {
         // SAFETY: as in `new`.
         unsafe { synicboard_tsc_until(self.0, time) }

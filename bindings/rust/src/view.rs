@@ -1,7 +1,7 @@
 //! What a run loop acts on, and what has changed in it.
 
-use crate::board::{first_due, owner_of};
-use crate::{sys, Owner, TimerId, Vector};
+use crate::queries::{first_due, owner_of};
+use crate::{sys, Owner, TimerId, Vector, Vp};
 use core::fmt;
 
 /// No deadline.
@@ -15,7 +15,7 @@ const NOTHING: sys::synicboard_page_owner =
 /// [`update`](crate::Board::update).
 ///
 /// ```
-/// use synicboard::{Board, Ticket, Vector, View};
+/// use synicboard::{Board, Reply, Ticket, Vector, View, Vp};
 ///
 /// # fn main() -> Result<(), synicboard::OpenFault> {
 /// let mut board = Board::open(2, 4, Ticket::new(0))?;
@@ -23,10 +23,11 @@ const NOTHING: sys::synicboard_page_owner =
 /// assert!(!board.update(&mut view).any());
 ///
 /// let vector = Vector::new(0x50).expect("a vector from 16 on");
-/// board.assert(1, vector);
+/// let second = Vp::new(1).expect("a processor below 64");
+/// assert_eq!(board.assert(second, vector), Reply::Done);
 /// let changes = board.update(&mut view);
-/// assert!(changes.next(1) && !changes.next(0) && !changes.earliest());
-/// assert_eq!(view.next(1), Some(vector));
+/// assert!(changes.next(second) && !changes.next(Vp::ZERO) && !changes.earliest());
+/// assert_eq!(view.next(second), Some(vector));
 /// # Ok(())
 /// # }
 /// ```
@@ -35,8 +36,8 @@ pub struct View(pub(crate) sys::synicboard_view);
 
 impl View {
     /// The next vector of a processor. `None` if there is none, or `vp` is not on the board.
-    pub fn next(&self, vp: u8) -> Option<Vector> {
-        self.0.next.get(usize::from(vp)).and_then(|&vector| Vector::new(vector))
+    pub fn next(&self, vp: Vp) -> Option<Vector> {
+        self.0.next.get(usize::from(vp.number())).and_then(|&vector| Vector::new(vector))
     }
 
     /// The timer with the earliest deadline, and the deadline in units of 100 ns.
@@ -66,16 +67,17 @@ impl fmt::Debug for View {
 /// [`update_wide`](crate::Board::update_wide).
 ///
 /// ```
-/// use synicboard::{Board, Ticket, Vector, WideView};
+/// use synicboard::{Board, Reply, Ticket, Vector, Vp, WideView};
 ///
 /// # fn main() -> Result<(), synicboard::OpenFault> {
 /// let mut board = Board::open_sparse(64, Ticket::new(0))?;
 /// let mut view = WideView::default();
 /// let vector = Vector::new(0x50).expect("a vector from 16 on");
-/// board.assert(63, vector);
+/// let last = Vp::new(63).expect("a processor below 64");
+/// assert_eq!(board.assert(last, vector), Reply::Done);
 /// let changes = board.update_wide(&mut view);
-/// assert!(changes.nexts() == 1 << 63 && !changes.earliest());
-/// assert_eq!(view.next(63), Some(vector));
+/// assert!(changes.nexts() == last.bit() && !changes.earliest());
+/// assert_eq!(view.next(last), Some(vector));
 /// # Ok(())
 /// # }
 /// ```
@@ -84,8 +86,8 @@ pub struct WideView(pub(crate) sys::synicboard_wide_view);
 
 impl WideView {
     /// The next vector of a processor. `None` if there is none, or `vp` is not on the board.
-    pub fn next(&self, vp: u8) -> Option<Vector> {
-        self.0.next.get(usize::from(vp)).and_then(|&vector| Vector::new(vector))
+    pub fn next(&self, vp: Vp) -> Option<Vector> {
+        self.0.next.get(usize::from(vp.number())).and_then(|&vector| Vector::new(vector))
     }
 
     /// The timer with the earliest deadline, and the deadline in units of 100 ns.
@@ -112,6 +114,7 @@ impl fmt::Debug for WideView {
 }
 
 /// What differs between two updates of a wide view.
+#[must_use = "the host kicks these processors, and arms its timer again"]
 #[derive(Clone, Copy, PartialEq, Eq, Debug)]
 pub struct WideChanges(pub(crate) sys::synicboard_changes);
 
@@ -133,13 +136,14 @@ impl WideChanges {
 }
 
 /// What differs between two updates of a view.
+#[must_use = "the host kicks these processors, and arms its timer again"]
 #[derive(Clone, Copy, PartialEq, Eq, Debug)]
 pub struct Changes(pub(crate) u64);
 
 impl Changes {
     /// Whether the next vector of a processor differs.
-    pub fn next(self, vp: u8) -> bool {
-        vp < 8 && self.0 >> vp & 1 == 1
+    pub fn next(self, vp: Vp) -> bool {
+        vp.number() < 8 && self.0 & vp.bit() != 0
     }
 
     /// Whether the earliest deadline or its timer differs.

@@ -11,9 +11,14 @@ use synicboard::{
     Vector, Verdict, Vp, MOST_NOTICES,
 };
 
-const VP: Vp = Vp::new(0).unwrap();
-const SINT: Sint = Sint::new(2).unwrap();
+const VP: Vp = Vp::ZERO;
+const SINT: Sint = Sint::SINT2;
 const VECTOR: Vector = Vector::new(0x50).unwrap();
+
+/// Processor `number`.
+const fn processor(number: u8) -> Vp {
+    Vp::new(number).unwrap()
+}
 
 /// A board whose processor 0 has its SynIC enabled, its message page at page 2, its event flags
 /// page at page 3, and vector 50 at SINT2.
@@ -21,7 +26,7 @@ fn booted(processors: u8, pages: u8, first_ticket: u64) -> Board {
     let mut board = Board::open(processors, pages, Ticket::new(first_ticket)).unwrap();
     let registers = [(SCONTROL, 1), (SIMP, 0x2001), (SIEFP, 0x3001), (SINT0 + 2, 0x50)];
     for (register, value) in registers {
-        assert_eq!(board.write(0, register, value), Reply::Done);
+        assert_eq!(board.write(VP, register, value), Reply::Done);
     }
     board
 }
@@ -50,9 +55,9 @@ fn a_sparse_board_has_1_to_64_processors_and_no_page() {
     assert_eq!((board.processors(), board.pages(), board.next_ticket()), (64, 0, Ticket::new(7)));
     assert_eq!(board.next_overlay(0), None);
     let last = (1 << 52) - 1;
-    assert_eq!(board.write(63, SIEFP, last << 12 | 1), Reply::Done);
-    assert_eq!(board.write(0, SIMP, 0x5001), Reply::Done);
-    assert_eq!(board.next_overlay(0), Some((5, Owner::Sim(Vp::new(0).unwrap()))));
+    assert_eq!(board.write(processor(63), SIEFP, last << 12 | 1), Reply::Done);
+    assert_eq!(board.write(VP, SIMP, 0x5001), Reply::Done);
+    assert_eq!(board.next_overlay(0), Some((5, Owner::Sim(VP))));
     assert_eq!(board.next_overlay(6), Some((last, Owner::Sief(Vp::new(63).unwrap()))));
     assert_eq!(board.next_overlay(last + 1), None);
     assert_eq!((board.owner(6), board.owner(last + 1)), (Owner::Guest, Owner::Nothing));
@@ -70,8 +75,8 @@ fn a_sparse_board_has_1_to_64_processors_and_no_page() {
 fn the_earliest_after_a_time_is_later() {
     let mut board = Board::open(1, 1, Ticket::new(0)).unwrap();
     assert_eq!(board.earliest_after(0), None);
-    assert_eq!(board.write(0, STIMER0_COUNT, 5), Reply::Done);
-    assert_eq!(board.write(0, STIMER0_CONFIG, 0x2_0001), Reply::Done);
+    assert_eq!(board.write(VP, STIMER0_COUNT, 5), Reply::Done);
+    assert_eq!(board.write(VP, STIMER0_CONFIG, 0x2_0001), Reply::Done);
     assert_eq!(board.tick(9), Reply::Done);
     assert_eq!(board.earliest_after(4), board.earliest());
     assert_eq!(board.earliest_after(5), None);
@@ -102,20 +107,20 @@ fn bytes_are_equal_where_their_slices_are() {
 fn each_refusal_comes_and_has_its_number() {
     let mut board = booted(2, 4, 0);
     let ready = [
-        board.open_message_port(Port::new(3), 0, 2, 1),
-        board.open_event_port(Port::new(5), 0, 3, 0, 8),
-        board.open_message_port(Port::new(6), 1, 2, 1),
+        board.open_message_port(Port::new(3), VP, SINT, 1),
+        board.open_event_port(Port::new(5), VP, Sint::SINT3, 0, 8),
+        board.open_message_port(Port::new(6), processor(1), SINT, 1),
         board.tick(10),
-        board.suspend(1),
+        board.suspend(processor(1)),
     ];
     assert_eq!(ready, [Reply::Done; 5]);
     assert_eq!(board.post(Port::new(3), 1, &[]), Reply::Accepted(Ticket::new(0)));
     assert_eq!(board.post(Port::new(3), 1, &[]), Reply::Accepted(Ticket::new(1)));
     let refused = [
         board.close_port(Port::new(16)),
-        board.open_message_port(Port::new(3), 0, 2, 1),
+        board.open_message_port(Port::new(3), VP, SINT, 1),
         board.signal(Port::new(3), 0),
-        board.open_message_port(Port::new(4), 2, 2, 1),
+        board.open_message_port(Port::new(4), processor(2), SINT, 1),
         board.post(Port::new(3), 0, &[]),
         board.signal(Port::new(5), 8),
         board.post(Port::new(6), 1, &[]),
@@ -125,9 +130,9 @@ fn each_refusal_comes_and_has_its_number() {
         board.load(0x4000, 1),
         board.load(0xfff, 2),
         board.store(0, &[]),
-        board.take(2),
-        board.suspend(1),
-        board.resume(0),
+        board.take(processor(2)),
+        board.suspend(processor(1)),
+        board.resume(VP),
         Board::open_sparse(1, Ticket::new(0)).unwrap().load(0, 1),
     ];
     let refusals = Refusal::ALL.map(Reply::Refused);
@@ -138,7 +143,7 @@ fn each_refusal_comes_and_has_its_number() {
 
 fn spent() -> Reply {
     let mut board = booted(1, 1, u64::MAX);
-    assert_eq!(board.open_message_port(Port::new(3), 0, 2, 1), Reply::Done);
+    assert_eq!(board.open_message_port(Port::new(3), VP, SINT, 1), Reply::Done);
     board.post(Port::new(3), 1, &[])
 }
 
@@ -156,7 +161,7 @@ fn a_refusal_is_an_error_with_words() {
 #[test]
 fn too_many_bytes_are_no_event() {
     let mut board = booted(1, 4, 0);
-    assert_eq!(board.open_message_port(Port::new(3), 0, 2, 2), Reply::Done);
+    assert_eq!(board.open_message_port(Port::new(3), VP, SINT, 2), Reply::Done);
     assert_eq!(board.post(Port::new(3), 1, &[7; 240]), Reply::Accepted(Ticket::new(0)));
     let told = board.notices().collect::<Vec<_>>();
     assert_eq!(told.len(), 3);
@@ -165,7 +170,7 @@ fn too_many_bytes_are_no_event() {
         assert_eq!(reply, Reply::NoEvent);
     }
     assert_eq!(board.notices().collect::<Vec<_>>(), told);
-    assert_eq!((board.next_ticket(), board.queued(0, 2)), (Ticket::new(1), 0));
+    assert_eq!((board.next_ticket(), board.queued(VP, SINT)), (Ticket::new(1), 0));
     assert_eq!(board.guest_page(0).unwrap()[0], 0);
     assert_eq!(board.store(0, &[7; 8]), Reply::Done);
     assert_eq!(board.guest_page(0).unwrap()[..9], [7, 7, 7, 7, 7, 7, 7, 7, 0]);
@@ -174,40 +179,47 @@ fn too_many_bytes_are_no_event() {
 #[test]
 fn registers_answer_general_protection_and_values() {
     let mut board = booted(1, 4, 0);
-    assert_eq!(board.read(0, SVERSION), Reply::Value(1));
-    assert_eq!(board.write(0, SVERSION, 1), Reply::GeneralProtection);
-    assert_eq!(board.read(0, EOI), Reply::GeneralProtection);
-    assert_eq!(board.write(0, SCONTROL, u64::MAX), Reply::Done);
-    assert_eq!(board.read(0, SCONTROL), Reply::Value(u64::MAX));
-    assert_eq!(board.read(1, SVERSION), Reply::Refused(Refusal::NoSuchProcessor));
+    assert_eq!(board.read(VP, SVERSION), Reply::Value(1));
+    assert_eq!(board.write(VP, SVERSION, 1), Reply::GeneralProtection);
+    assert_eq!(board.read(VP, EOI), Reply::GeneralProtection);
+    assert_eq!(board.write(VP, SCONTROL, u64::MAX), Reply::Done);
+    assert_eq!(board.read(VP, SCONTROL), Reply::Value(u64::MAX));
+    assert_eq!(board.read(processor(1), SVERSION), Reply::Refused(Refusal::NoSuchProcessor));
 }
 
 #[test]
 fn looks_of_what_is_not_there_find_nothing() {
     let board = booted(1, 4, 0);
-    assert_eq!((board.next(0), board.next(1), board.next(255)), (None, None, None));
-    assert!(!board.is_auto(0, VECTOR) && !board.is_auto(255, VECTOR));
-    assert_eq!((board.queued(1, 0), board.queued(0, 16), board.queued(255, 255)), (0, 0, 0));
+    assert_eq!((board.next(VP), board.next(processor(1)), board.next(processor(63))), (None, None, None));
+    assert!(!board.is_auto(VP, VECTOR) && !board.is_auto(processor(63), VECTOR));
+    assert_eq!(
+        (
+            board.queued(processor(1), Sint::SINT0),
+            board.queued(VP, Sint::SINT15),
+            board.queued(processor(63), SINT)
+        ),
+        (0, 0, 0)
+    );
     assert_eq!(board.earliest(), None);
     let owners = [0, 2, 3, 4, u64::MAX].map(|page| board.owner(page));
     let (sim, sief) = (Owner::Sim(VP), Owner::Sief(VP));
     assert_eq!(owners, [Owner::Guest, sim, sief, Owner::Nothing, Owner::Nothing]);
-    assert!(board.message_page(1).is_none() && board.flag_page(255).is_none());
+    assert!(board.message_page(processor(1)).is_none() && board.flag_page(processor(63)).is_none());
     assert!(board.guest_page(4).is_none() && board.guest_page(u64::MAX).is_none());
 }
 
 #[test]
 fn looks_find_what_is_there() {
     let mut board = booted(2, 4, 0);
-    assert_eq!(board.write(0, SINT0 + 3, 0x2_0060), Reply::Done);
-    assert_eq!(board.assert(0, Vector::new(255).unwrap()), Reply::Done);
-    assert_eq!(board.next(0), Vector::new(255));
+    assert_eq!(board.write(VP, SINT0 + 3, 0x2_0060), Reply::Done);
+    assert_eq!(board.assert(VP, Vector::new(255).unwrap()), Reply::Done);
+    assert_eq!(board.next(VP), Vector::new(255));
     let auto = Vector::new(0x60).unwrap();
-    assert!(board.is_auto(0, auto) && !board.is_auto(0, VECTOR) && !board.is_auto(1, auto));
+    assert!(board.is_auto(VP, auto) && !board.is_auto(VP, VECTOR) && !board.is_auto(processor(1), auto));
     // A period of 2^64 - 1 from time 2 on is due after the greatest 64-bit time.
     assert_eq!(board.tick(2), Reply::Done);
-    assert_eq!(board.write(1, STIMER0_COUNT + 6, u64::MAX), Reply::Done);
-    assert_eq!(board.write(1, STIMER0_CONFIG + 6, 0x1403), Reply::Done);
+    assert_eq!(board.write(processor(1), STIMER0_COUNT + 6, u64::MAX), Reply::Done);
+    assert_eq!(board.write(processor(1), STIMER0_CONFIG + 6, 0x1403), Reply::Done);
     let timer = TimerId::new(Vp::new(1).unwrap(), 3).unwrap();
     assert_eq!(board.earliest(), Some(((1 << 64) + 1, timer)));
     assert_eq!(board.moment(), 2);
@@ -219,25 +231,30 @@ fn looks_find_what_is_there() {
 fn pages_stay_where_they_lie_and_show_each_event() {
     let mut board = booted(2, 4, 0);
     let places = |board: &Board| {
-        let own = [board.message_page(0), board.flag_page(0), board.message_page(1), board.flag_page(1)];
+        let own = [
+            board.message_page(VP),
+            board.flag_page(VP),
+            board.message_page(processor(1)),
+            board.flag_page(processor(1)),
+        ];
         let guest = [0, 1, 2, 3].map(|number| board.guest_page(number));
         [own, guest].concat().into_iter().map(|page| page.unwrap().as_ptr()).collect::<Vec<_>>()
     };
     let before = places(&board);
-    assert_eq!(board.open_message_port(Port::new(3), 0, 2, 1), Reply::Done);
-    assert_eq!(board.open_event_port(Port::new(4), 0, 2, 2000, 48), Reply::Done);
+    assert_eq!(board.open_message_port(Port::new(3), VP, SINT, 1), Reply::Done);
+    assert_eq!(board.open_event_port(Port::new(4), VP, SINT, 2000, 48), Reply::Done);
     assert_eq!(board.post(Port::new(3), 1, &[0xab; 240]), Reply::Accepted(Ticket::new(0)));
     assert_eq!(board.signal(Port::new(4), 47), Reply::FlagWasClear);
     assert!(board.notices().eq([Notice::FlagSet { vp: VP, sint: SINT, flag: 2047 }]));
     assert_eq!(board.signal(Port::new(4), 47), Reply::FlagWasSet);
-    let (messages, flags) = (board.message_page(0).unwrap(), board.flag_page(0).unwrap());
+    let (messages, flags) = (board.message_page(VP).unwrap(), board.flag_page(VP).unwrap());
     assert_eq!(messages[0x200..0x208], [1, 0, 0, 0, 240, 0, 0, 0]);
     assert_eq!(messages[0x210..0x300], [0xab; 240]);
     assert_eq!((messages[0x300], flags[0x2ff]), (0, 0x80));
     assert_eq!(board.guest_page(2).unwrap(), &[0; 4096]);
     assert_eq!(board.load(0x32ff, 1), Reply::Bytes(Bytes8::new(&[0x80]).unwrap()));
-    assert_eq!(board.reset(0), Reply::Done);
-    assert_eq!(board.message_page(0).unwrap(), &[0; 4096]);
+    assert_eq!(board.reset(VP), Reply::Done);
+    assert_eq!(board.message_page(VP).unwrap(), &[0; 4096]);
     assert_eq!(places(&board), before);
 }
 
@@ -245,16 +262,16 @@ fn pages_stay_where_they_lie_and_show_each_event() {
 fn a_guest_page_lies_below_its_overlay() {
     let mut board = Board::open(1, 4, Ticket::new(0)).unwrap();
     assert_eq!(board.store(0x2ff8, &[1, 2, 3, 4, 5, 6, 7, 8]), Reply::Done);
-    assert_eq!(board.write(0, SIMP, 0x2001), Reply::Done);
+    assert_eq!(board.write(VP, SIMP, 0x2001), Reply::Done);
     assert_eq!(board.store(0x2ff8, &[9]), Reply::Done);
     assert_eq!(board.guest_page(2).unwrap()[0xff8..], [1, 2, 3, 4, 5, 6, 7, 8]);
-    assert_eq!(board.message_page(0).unwrap()[0xff8..0xffa], [9, 0]);
+    assert_eq!(board.message_page(VP).unwrap()[0xff8..0xffa], [9, 0]);
 }
 
 #[test]
 fn notices_are_those_of_the_last_event() {
     let mut board = booted(1, 4, 5);
-    assert_eq!(board.open_message_port(Port::new(3), 0, 2, 2), Reply::Done);
+    assert_eq!(board.open_message_port(Port::new(3), VP, SINT, 2), Reply::Done);
     assert_eq!(board.notices().next(), None);
     assert_eq!(board.post(Port::new(3), 1, &[]), Reply::Accepted(Ticket::new(5)));
     let (ticket, vp, sint) = (Ticket::new(5), VP, SINT);
@@ -268,42 +285,42 @@ fn notices_are_those_of_the_last_event() {
     assert_eq!(notices.nth(1), Some(told[1]));
     // Other queries are allowed while the notices are held, and so is another query for the
     // notices.
-    assert_eq!((board.next(0), board.notices().len()), (Some(VECTOR), 3));
+    assert_eq!((board.next(VP), board.notices().len()), (Some(VECTOR), 3));
     assert_eq!((notices.len(), notices.next(), notices.next()), (1, Some(told[2]), None));
-    assert_eq!(board.take(0), Reply::Taken(Some(VECTOR)));
+    assert_eq!(board.take(VP), Reply::Taken(Some(VECTOR)));
     assert_eq!(board.notices().len(), 0);
     assert_eq!(board.store(0x2200, &[0; 4]), Reply::Done);
     assert!(board.notices().eq([Notice::Consumed { ticket, vp, sint }]));
-    assert_eq!(board.take(9), Reply::Refused(Refusal::NoSuchProcessor));
+    assert_eq!(board.take(processor(9)), Reply::Refused(Refusal::NoSuchProcessor));
     assert_eq!(format!("{:?}", board.notices()), "[]");
 }
 
 #[test]
 fn posted_vectors_are_requested_the_smallest_first() {
     let mut board = Board::open(1, 1, Ticket::new(0)).unwrap();
-    assert_eq!(board.absorb(0, 3, 1 << 63 | 1), Reply::Done);
+    assert_eq!(board.absorb(VP, 3, 1 << 63 | 1), Reply::Done);
     let requested = |number| Notice::Requested { vp: VP, vector: Vector::new(number).unwrap() };
     assert!(board.notices().eq([requested(192), requested(255)]));
-    assert_eq!(board.absorb(0, 0, 0x1_ffff), Reply::Done);
+    assert_eq!(board.absorb(VP, 0, 0x1_ffff), Reply::Done);
     assert!(board.notices().eq([requested(16)]));
-    assert_eq!(board.absorb(0, 4, 0), Reply::Refused(Refusal::BadTarget));
+    assert_eq!(board.absorb(VP, 4, 0), Reply::Refused(Refusal::BadTarget));
 }
 
 #[test]
 fn numbers_that_no_board_has_are_refused_as_events_too() {
     let mut board = booted(1, 4, 0);
-    assert_eq!(board.open_message_port(Port::new(3), 0, 2, 1), Reply::Done);
+    assert_eq!(board.open_message_port(Port::new(3), VP, SINT, 1), Reply::Done);
     let shape = PortShape::Flags { base: 2048, count: 1 };
     let payload = PayloadBytes::new(&[]).unwrap();
     let refused = [
         (Event::ClosePort { port: Port::new(19) }, Refusal::UnknownPort),
-        (Event::OpenPort { port: Port::new(4), vp: 0, sint: 2, shape }, Refusal::BadTarget),
+        (Event::OpenPort { port: Port::new(4), vp: VP, sint: SINT, shape }, Refusal::BadTarget),
         (Event::Post { port: Port::new(19), kind: 1, payload }, Refusal::UnknownPort),
         (Event::Post { port: Port::new(3), kind: 1 << 31, payload }, Refusal::BadType),
-        (Event::Write { vp: 8, register: SCONTROL, value: 1 }, Refusal::NoSuchProcessor),
+        (Event::Write { vp: processor(8), register: SCONTROL, value: 1 }, Refusal::NoSuchProcessor),
         (Event::Load { address: 0, length: 255 }, Refusal::BadLength),
         (Event::Load { address: u64::MAX, length: 8 }, Refusal::OutsideSpace),
-        (Event::Reset { vp: 8 }, Refusal::NoSuchProcessor),
+        (Event::Reset { vp: processor(8) }, Refusal::NoSuchProcessor),
         (Event::Send { vector: Vector::new(255).unwrap(), mask: 1 << 63 }, Refusal::NoSuchProcessor),
     ];
     for (event, refusal) in refused {
@@ -315,8 +332,8 @@ fn numbers_that_no_board_has_are_refused_as_events_too() {
 fn a_late_timer_tells_when_it_was_due_and_what_it_skipped() {
     let mut board = Board::open(1, 1, Ticket::new(0)).unwrap();
     assert_eq!(board.tick(100), Reply::Done);
-    assert_eq!(board.write(0, STIMER0_COUNT, 10), Reply::Done);
-    assert_eq!(board.write(0, STIMER0_CONFIG, 0x1403), Reply::Done);
+    assert_eq!(board.write(VP, STIMER0_COUNT, 10), Reply::Done);
+    assert_eq!(board.write(VP, STIMER0_CONFIG, 0x1403), Reply::Done);
     assert_eq!(board.tick(235), Reply::Done);
     let (vp, index, vector) = (VP, 0, Vector::new(0x40).unwrap());
     let told = [
@@ -332,8 +349,8 @@ fn a_late_timer_tells_when_it_was_due_and_what_it_skipped() {
 #[test]
 fn a_reset_gives_the_most_notices() {
     let mut board = booted(1, 4, 0);
-    for port in 0..16 {
-        assert_eq!(board.open_message_port(Port::new(port), 0, port, 16), Reply::Done);
+    for (port, sint) in (0..16).zip(Sint::ALL) {
+        assert_eq!(board.open_message_port(Port::new(port), VP, sint, 16), Reply::Done);
         for number in 0..17 {
             assert_eq!(
                 board.post(Port::new(port), 1, &[]),
@@ -342,13 +359,13 @@ fn a_reset_gives_the_most_notices() {
         }
     }
     for timer in 0..4 {
-        assert_eq!(board.write(0, STIMER0_COUNT + 2 * timer, 10), Reply::Done);
-        assert_eq!(board.write(0, STIMER0_CONFIG + 2 * timer, 0x1_0003), Reply::Done);
+        assert_eq!(board.write(VP, STIMER0_COUNT + 2 * timer, 10), Reply::Done);
+        assert_eq!(board.write(VP, STIMER0_CONFIG + 2 * timer, 0x1_0003), Reply::Done);
     }
     assert_eq!(board.tick(10), Reply::Done);
-    assert_eq!((board.queued(0, 0), board.queued(0, 1), board.queued(0, 16)), (16, 20, 0));
+    assert_eq!((board.queued(VP, Sint::SINT0), board.queued(VP, Sint::SINT1)), (16, 20));
     assert_eq!(board.next_ticket(), Ticket::new(276));
-    assert_eq!(board.reset(0), Reply::Done);
+    assert_eq!(board.reset(VP), Reply::Done);
     let notices = board.notices();
     assert_eq!(notices.len(), MOST_NOTICES);
     let mut tickets = notices.map(|notice| match notice {
@@ -364,15 +381,18 @@ fn a_reset_gives_the_most_notices() {
 #[test]
 fn two_boards_know_nothing_of_each_other() {
     let (mut one, mut other) = (booted(1, 4, 0), booted(2, 8, 100));
-    assert_eq!(one.open_message_port(Port::new(3), 0, 2, 2), Reply::Done);
+    assert_eq!(one.open_message_port(Port::new(3), VP, SINT, 2), Reply::Done);
     assert_eq!(other.post(Port::new(3), 1, &[1]), Reply::Refused(Refusal::UnknownPort));
     assert_eq!(one.post(Port::new(3), 1, &[1]), Reply::Accepted(Ticket::new(0)));
-    assert_eq!((one.next(0), other.next(0)), (Some(VECTOR), None));
+    assert_eq!((one.next(VP), other.next(VP)), (Some(VECTOR), None));
     assert_eq!((one.notices().len(), other.notices().len()), (3, 0));
     assert_eq!(other.tick(50), Reply::Done);
     assert_eq!((one.moment(), other.moment()), (0, 50));
     drop(one);
-    assert_eq!((other.next_ticket(), other.read(1, SVERSION)), (Ticket::new(100), Reply::Value(1)));
+    assert_eq!(
+        (other.next_ticket(), other.read(processor(1), SVERSION)),
+        (Ticket::new(100), Reply::Value(1))
+    );
 }
 
 /// A board is opened in one thread, used in another, and closed in a third. The board moves; its
@@ -380,16 +400,16 @@ fn two_boards_know_nothing_of_each_other() {
 #[test]
 fn a_board_goes_to_other_threads() {
     let mut board = booted(1, 4, 0);
-    let page = board.message_page(0).unwrap().as_ptr() as usize;
-    assert_eq!(board.open_message_port(Port::new(3), 0, 2, 2), Reply::Done);
+    let page = board.message_page(VP).unwrap().as_ptr() as usize;
+    assert_eq!(board.open_message_port(Port::new(3), VP, SINT, 2), Reply::Done);
     let used = thread::spawn(move || {
         assert_eq!(board.post(Port::new(3), 1, &[1]), Reply::Accepted(Ticket::new(0)));
         vec![Box::new(board)]
     });
     let mut boards = used.join().unwrap();
     assert_eq!(boards[0].notices().len(), 3);
-    assert_eq!(boards[0].take(0), Reply::Taken(Some(VECTOR)));
-    assert_eq!(boards[0].message_page(0).unwrap().as_ptr() as usize, page);
+    assert_eq!(boards[0].take(VP), Reply::Taken(Some(VECTOR)));
+    assert_eq!(boards[0].message_page(VP).unwrap().as_ptr() as usize, page);
     thread::spawn(move || drop(boards)).join().unwrap();
 }
 
@@ -405,11 +425,11 @@ fn threads_share_a_board_under_a_lock() {
         }
     };
     thread::scope(|scope| {
-        for vp in 0..8 {
+        for vp in Vp::below(8) {
             scope.spawn(move || rounds(vp));
         }
     });
-    assert_eq!(board.into_inner().unwrap().next(0), None);
+    assert_eq!(board.into_inner().unwrap().next(VP), None);
 }
 
 /// Boards share no state: each thread has its own, without any lock.
@@ -417,14 +437,14 @@ fn threads_share_a_board_under_a_lock() {
 fn boards_run_side_by_side() {
     let told = |first_ticket| {
         let mut board = booted(1, 4, first_ticket);
-        assert_eq!(board.open_message_port(Port::new(3), 0, 2, 2), Reply::Done);
+        assert_eq!(board.open_message_port(Port::new(3), VP, SINT, 2), Reply::Done);
         for number in 0..1000 {
             let payload = PayloadBytes::new(&[7; 240]).unwrap();
             let post = Event::Post { port: Port::new(3), kind: 1, payload };
             assert_eq!(board.perform(&post), Reply::Accepted(Ticket::new(first_ticket + number)));
-            assert_eq!(board.take(0), Reply::Taken(Some(VECTOR)));
+            assert_eq!(board.take(VP), Reply::Taken(Some(VECTOR)));
             assert_eq!(board.store(0x2200, &[0; 4]), Reply::Done);
-            assert_eq!(board.write(0, EOI, 0), Reply::Done);
+            assert_eq!(board.write(VP, EOI, 0), Reply::Done);
         }
         board.next_ticket()
     };
@@ -482,9 +502,9 @@ fn an_image_that_does_not_fit_is_cut_and_counted() {
 fn an_image_is_restored() {
     let mut board = Board::open(2, 3, Ticket::new(5)).unwrap();
     for (register, value) in [(0x4000_0080, 1), (0x4000_0083, 0x2001), (0x4000_0092, 0x50)] {
-        assert_eq!(board.write(1, register, value), Reply::Done);
+        assert_eq!(board.write(processor(1), register, value), Reply::Done);
     }
-    assert_eq!(board.open_message_port(Port::new(3), 1, 2, 2), Reply::Done);
+    assert_eq!(board.open_message_port(Port::new(3), processor(1), SINT, 2), Reply::Done);
     assert_eq!(board.post(Port::new(3), 1, b"one"), Reply::Accepted(Ticket::new(5)));
     assert_eq!(board.post(Port::new(3), 1, b"two"), Reply::Accepted(Ticket::new(6)));
     let mut room = vec![0; 4096];
@@ -509,7 +529,7 @@ fn a_wrong_image_is_refused_at_its_first_wrong_line() {
 fn what_was_not_performed_has_no_entry() {
     let mut room = [b'.'; 8];
     assert_eq!(
-        format_entry(0, &Event::Take { vp: 0 }, &Reply::NoEvent, &mut room),
+        format_entry(0, &Event::Take { vp: VP }, &Reply::NoEvent, &mut room),
         Err(FormatFault::NoEvent)
     );
     assert_eq!(room, [b'.'; 8]);
@@ -519,9 +539,9 @@ fn what_was_not_performed_has_no_entry() {
 fn a_step_moves_the_clock_and_says_what_to_do() {
     let (mut board, mut room) = (Board::open(2, 1, Ticket::new(0)).unwrap(), AnswerRoom::new().unwrap());
     for (register, value) in [(0x4000_0080, 1), (0x4000_00b1, 10), (0x4000_00b0, 0x1403)] {
-        assert_eq!(board.write(1, register, value), Reply::Done);
+        assert_eq!(board.write(processor(1), register, value), Reply::Done);
     }
-    let write = Event::Write { vp: 1, register: 0x4000_0070, value: 0 };
+    let write = Event::Write { vp: processor(1), register: 0x4000_0070, value: 0 };
     let answer = board.step(9, Some(&write), 0, &mut room);
     assert_eq!(
         (answer.reply, answer.next, answer.alarm, room.notices().len()),
@@ -532,7 +552,7 @@ fn a_step_moves_the_clock_and_says_what_to_do() {
     let vp = Vp::new(1).unwrap();
     assert_eq!(room.notices().next(), Some(Notice::Expired { vp, index: 0, due: 10 }));
     assert_eq!((room.notices().len(), board.next_bits(), answer.clock_eoms, answer.eoms), (2, 2, 0, 0));
-    let answer = board.step(25, Some(&Event::Take { vp: 1 }), 2, &mut room);
+    let answer = board.step(25, Some(&Event::Take { vp: processor(1) }), 2, &mut room);
     assert_eq!((answer.reply, answer.next, answer.end_assist), (Some(Reply::Taken(Vector::new(0x40))), 0, 0));
 }
 
@@ -540,29 +560,28 @@ fn a_step_moves_the_clock_and_says_what_to_do() {
 fn ports_are_found_and_sources_asserted() {
     let mut board = Board::open(2, 1, Ticket::new(0)).unwrap();
     let (vp, sint) = (Vp::new(1).unwrap(), Sint::new(2).unwrap());
-    assert_eq!(board.open_message_port(Port::new(3), 1, 2, 5), Reply::Done);
-    assert_eq!(board.open_event_port(Port::new(4), 1, 2, 8, 64), Reply::Done);
+    assert_eq!(board.open_message_port(Port::new(3), processor(1), SINT, 5), Reply::Done);
+    assert_eq!(board.open_event_port(Port::new(4), processor(1), SINT, 8, 64), Reply::Done);
     assert_eq!(board.port(Port::new(3)), Some((vp, sint, PortShape::Messages { buffers: 5 })));
     assert_eq!(board.port(Port::new(4)), Some((vp, sint, PortShape::Flags { base: 8, count: 64 })));
     assert_eq!((board.port(Port::new(5)), board.port(Port::new(255))), (None, None));
-    assert_eq!(board.assert_source(1, 2), Reply::Done);
+    assert_eq!(board.assert_source(processor(1), SINT), Reply::Done);
     assert_eq!(board.next_bits(), 0);
-    assert_eq!(board.write(1, 0x4000_0092, 0x50), Reply::Done);
-    assert_eq!(board.assert_source(1, 2), Reply::Done);
+    assert_eq!(board.write(processor(1), 0x4000_0092, 0x50), Reply::Done);
+    assert_eq!(board.assert_source(processor(1), SINT), Reply::Done);
     assert_eq!(board.next_bits(), 2);
-    assert_eq!(board.assert_source(2, 2), Reply::Refused(Refusal::NoSuchProcessor));
-    assert_eq!(board.assert_source(1, 16), Reply::NoEvent);
+    assert_eq!(board.assert_source(processor(2), SINT), Reply::Refused(Refusal::NoSuchProcessor));
 }
 
 #[test]
 fn replies_are_results() {
     let mut board = Board::open(1, 1, Ticket::new(7)).unwrap();
-    assert_eq!(board.read(0, 0x4000_0081).value(), Ok(1));
-    assert_eq!(board.read(0, 0x4000_0000).value(), Err(EventFault::GeneralProtection));
+    assert_eq!(board.read(VP, 0x4000_0081).value(), Ok(1));
+    assert_eq!(board.read(VP, 0x4000_0000).value(), Err(EventFault::GeneralProtection));
     assert_eq!(board.load(0, 2).bytes().map(|bytes| bytes.as_ref().len()), Ok(2));
     assert_eq!(board.load(4096, 2).bytes(), Err(EventFault::Refused(Refusal::OutsideSpace)));
-    assert_eq!(board.take(0).vector(), Ok(None));
-    assert_eq!(board.take(1).vector(), Err(EventFault::Refused(Refusal::NoSuchProcessor)));
+    assert_eq!(board.take(VP).vector(), Ok(None));
+    assert_eq!(board.take(processor(1)).vector(), Err(EventFault::Refused(Refusal::NoSuchProcessor)));
     assert_eq!(board.post(Port::new(3), 1, &[0; 241]).ticket(), Err(EventFault::NoEvent));
     assert_eq!(board.signal(Port::new(4), 0).is_set(), Err(EventFault::Refused(Refusal::UnknownPort)));
     let fault = EventFault::Refused(Refusal::UnknownPort);
@@ -585,5 +604,5 @@ fn replies_are_results() {
 #[test]
 #[should_panic(expected = "Done is no reply to a read")]
 fn a_reply_to_another_event_has_no_value() {
-    let _ = Board::open(1, 1, Ticket::new(0)).unwrap().write(0, 0x4000_0080, 1).value();
+    let _ = Board::open(1, 1, Ticket::new(0)).unwrap().write(VP, 0x4000_0080, 1).value();
 }

@@ -10,6 +10,12 @@ const PARTS: u8 = 4;
 /// A vector of part 3 whose bit is not the first.
 const VECTOR: Vector = Vector::new(0xc5).unwrap();
 const PART: u8 = 3;
+const VP: Vp = Vp::ZERO;
+
+/// Processor `number`.
+const fn processor(number: u8) -> Vp {
+    Vp::new(number).unwrap()
+}
 
 const FRESH: Option<Raised> = Some(Raised::Fresh);
 const ALREADY: Option<Raised> = Some(Raised::Already);
@@ -25,16 +31,16 @@ fn part_of(vector: Vector) -> u8 {
 /// Absorbs a part, which requests these vectors of the processor in this order, and emits nothing
 /// else.
 #[track_caller]
-fn absorbs(board: &mut Board, line: &mut Line, vp: u8, part: u8, vectors: &[Vector]) {
+fn absorbs(board: &mut Board, line: &mut Line, vp: Vp, part: u8, vectors: &[Vector]) {
     assert_eq!(board.absorb_line(line, vp, part), Reply::Done);
-    let requested = |&vector| Notice::Requested { vp: Vp::new(vp).unwrap(), vector };
+    let requested = |&vector| Notice::Requested { vp, vector };
     let expected: Vec<_> = vectors.iter().map(requested).collect();
     assert_eq!(board.notices().collect::<Vec<_>>(), expected);
 }
 
 /// A processor takes this vector and ends it.
 #[track_caller]
-fn takes(board: &mut Board, vp: u8, vector: Vector) {
+fn takes(board: &mut Board, vp: Vp, vector: Vector) {
     assert_eq!(board.take(vp), Reply::Taken(Some(vector)));
     assert_eq!(board.write(vp, EOI, 0), Reply::Done);
 }
@@ -55,8 +61,8 @@ fn a_processor_that_the_words_are_not_for_is_not_raised() {
         let mut line = Line::open(processors).unwrap();
         let mut other = line.split().unwrap();
         assert_eq!(other.processors(), processors);
-        for vp in 0..=u8::MAX {
-            let (first, second) = if vp < processors { (FRESH, ALREADY) } else { (None, None) };
+        for vp in Vp::below(64) {
+            let (first, second) = if vp.number() < processors { (FRESH, ALREADY) } else { (None, None) };
             assert_eq!((line.raise(vp, VECTOR), other.raise(vp, VECTOR)), (first, second), "{vp}");
         }
     }
@@ -87,28 +93,28 @@ fn the_words_stay_as_long_as_one_of_their_lines() {
     let mut board = Board::open(1, 1, Ticket::new(0)).unwrap();
     let mut line = Line::open(1).unwrap();
     let mut others: Vec<_> = (0..319).map(|_| line.split().unwrap()).collect();
-    assert_eq!(line.raise(0, VECTOR), FRESH);
+    assert_eq!(line.raise(VP, VECTOR), FRESH);
     drop(line);
     for other in &mut others {
-        assert_eq!(other.raise(0, VECTOR), ALREADY);
+        assert_eq!(other.raise(VP, VECTOR), ALREADY);
     }
     let mut last = others.swap_remove(318);
     drop(others);
-    assert_eq!(last.raise(0, VECTOR), ALREADY);
-    absorbs(&mut board, &mut last, 0, PART, &[VECTOR]);
-    assert_eq!(last.raise(0, VECTOR), FRESH);
+    assert_eq!(last.raise(VP, VECTOR), ALREADY);
+    absorbs(&mut board, &mut last, VP, PART, &[VECTOR]);
+    assert_eq!(last.raise(VP, VECTOR), FRESH);
 }
 
 #[test]
 fn lines_of_other_words_do_not_see_each_other() {
     let mut board = Board::open(1, 1, Ticket::new(0)).unwrap();
     let (mut one, mut other) = (Line::open(1).unwrap(), Line::open(1).unwrap());
-    assert_eq!((one.raise(0, VECTOR), one.raise(0, VECTOR)), (FRESH, ALREADY));
-    absorbs(&mut board, &mut other, 0, PART, &[]);
-    assert_eq!((other.raise(0, VECTOR), one.raise(0, VECTOR)), (FRESH, ALREADY));
+    assert_eq!((one.raise(VP, VECTOR), one.raise(VP, VECTOR)), (FRESH, ALREADY));
+    absorbs(&mut board, &mut other, VP, PART, &[]);
+    assert_eq!((other.raise(VP, VECTOR), one.raise(VP, VECTOR)), (FRESH, ALREADY));
     drop(other);
-    absorbs(&mut board, &mut one, 0, PART, &[VECTOR]);
-    absorbs(&mut board, &mut Line::open(1).unwrap(), 0, PART, &[]);
+    absorbs(&mut board, &mut one, VP, PART, &[VECTOR]);
+    absorbs(&mut board, &mut Line::open(1).unwrap(), VP, PART, &[]);
 }
 
 #[test]
@@ -116,20 +122,20 @@ fn a_vector_is_fresh_again_behind_an_absorb_of_its_part() {
     let mut board = Board::open(2, 1, Ticket::new(0)).unwrap();
     let mut line = Line::open(2).unwrap();
     for vector in vectors() {
-        assert_eq!((line.raise(1, vector), line.raise(1, vector)), (FRESH, ALREADY));
+        assert_eq!((line.raise(processor(1), vector), line.raise(processor(1), vector)), (FRESH, ALREADY));
         for part in 0..PARTS {
-            absorbs(&mut board, &mut line, 0, part, &[]);
-            assert_eq!(line.raise(1, vector), ALREADY);
+            absorbs(&mut board, &mut line, VP, part, &[]);
+            assert_eq!(line.raise(processor(1), vector), ALREADY);
             if part != part_of(vector) {
-                absorbs(&mut board, &mut line, 1, part, &[]);
-                assert_eq!(line.raise(1, vector), ALREADY);
+                absorbs(&mut board, &mut line, processor(1), part, &[]);
+                assert_eq!(line.raise(processor(1), vector), ALREADY);
             }
         }
-        absorbs(&mut board, &mut line, 1, part_of(vector), &[vector]);
-        assert_eq!(line.raise(1, vector), FRESH);
-        takes(&mut board, 1, vector);
-        absorbs(&mut board, &mut line, 1, part_of(vector), &[vector]);
-        takes(&mut board, 1, vector);
+        absorbs(&mut board, &mut line, processor(1), part_of(vector), &[vector]);
+        assert_eq!(line.raise(processor(1), vector), FRESH);
+        takes(&mut board, processor(1), vector);
+        absorbs(&mut board, &mut line, processor(1), part_of(vector), &[vector]);
+        takes(&mut board, processor(1), vector);
     }
 }
 
@@ -141,12 +147,12 @@ fn an_absorb_requests_what_was_raised_in_its_part() {
     let mut board = Board::open(8, 1, Ticket::new(0)).unwrap();
     let mut line = Line::open(8).unwrap();
     for vector in raised.into_iter().rev() {
-        assert_eq!((line.raise(2, vector), line.raise(7, vector)), (FRESH, FRESH));
+        assert_eq!((line.raise(processor(2), vector), line.raise(processor(7), vector)), (FRESH, FRESH));
     }
     for (part, at) in [(2, 6..9), (0, 0..3), (3, 9..12), (1, 3..6)] {
-        absorbs(&mut board, &mut line, 7, part, &raised[at.clone()]);
-        absorbs(&mut board, &mut line, 7, part, &[]);
-        absorbs(&mut board, &mut line, 2, part, &raised[at]);
+        absorbs(&mut board, &mut line, processor(7), part, &raised[at.clone()]);
+        absorbs(&mut board, &mut line, processor(7), part, &[]);
+        absorbs(&mut board, &mut line, processor(2), part, &raised[at]);
     }
 }
 
@@ -154,12 +160,12 @@ fn an_absorb_requests_what_was_raised_in_its_part() {
 fn all_vectors_of_a_part_are_absorbed_at_once() {
     let mut board = Board::open(8, 1, Ticket::new(0)).unwrap();
     let mut line = Line::open(8).unwrap();
-    for vp in 0..8 {
+    for vp in Vp::below(8) {
         for vector in vectors() {
             assert_eq!(line.raise(vp, vector), FRESH);
         }
     }
-    for vp in 0..8 {
+    for vp in Vp::below(8) {
         for part in 0..PARTS {
             let expected: Vec<_> = vectors().filter(|&vector| part_of(vector) == part).collect();
             absorbs(&mut board, &mut line, vp, part, &expected);
@@ -172,12 +178,12 @@ fn all_vectors_of_a_part_are_absorbed_at_once() {
 fn an_absorb_tells_which_bits_it_took() -> Result<(), Box<dyn Error>> {
     let (mut board, mut line) = (Board::open(1, 1, Ticket::new(0))?, Line::open(1)?);
     for vector in [0xc0, 0xc5, 0xff] {
-        assert_eq!(line.raise(0, Vector::new(vector).unwrap()), FRESH);
+        assert_eq!(line.raise(VP, Vector::new(vector).unwrap()), FRESH);
     }
-    assert_eq!(board.absorb_line_bits(&mut line, 0, PART), (Reply::Done, 1 | 1 << 5 | 1 << 63));
-    assert_eq!(board.absorb_line_bits(&mut line, 0, PART), (Reply::Done, 0));
+    assert_eq!(board.absorb_line_bits(&mut line, VP, PART), (Reply::Done, 1 | 1 << 5 | 1 << 63));
+    assert_eq!(board.absorb_line_bits(&mut line, VP, PART), (Reply::Done, 0));
     let no_processor = Reply::Refused(Refusal::NoSuchProcessor);
-    assert_eq!(board.absorb_line_bits(&mut line, 1, PART), (no_processor, 0));
+    assert_eq!(board.absorb_line_bits(&mut line, processor(1), PART), (no_processor, 0));
     Ok(())
 }
 
@@ -185,14 +191,14 @@ fn an_absorb_tells_which_bits_it_took() -> Result<(), Box<dyn Error>> {
 fn what_is_requested_already_is_not_told_again() {
     let mut board = Board::open(1, 1, Ticket::new(0)).unwrap();
     let mut line = Line::open(1).unwrap();
-    assert_eq!(line.raise(0, VECTOR), FRESH);
-    absorbs(&mut board, &mut line, 0, PART, &[VECTOR]);
-    assert_eq!(line.raise(0, VECTOR), FRESH);
-    absorbs(&mut board, &mut line, 0, PART, &[]);
-    assert_eq!(line.raise(0, VECTOR), FRESH);
-    takes(&mut board, 0, VECTOR);
-    assert_eq!(board.next(0), None);
-    absorbs(&mut board, &mut line, 0, PART, &[VECTOR]);
+    assert_eq!(line.raise(VP, VECTOR), FRESH);
+    absorbs(&mut board, &mut line, VP, PART, &[VECTOR]);
+    assert_eq!(line.raise(VP, VECTOR), FRESH);
+    absorbs(&mut board, &mut line, VP, PART, &[]);
+    assert_eq!(line.raise(VP, VECTOR), FRESH);
+    takes(&mut board, VP, VECTOR);
+    assert_eq!(board.next(VP), None);
+    absorbs(&mut board, &mut line, VP, PART, &[VECTOR]);
 }
 
 /// If the board has no such processor or part, the bits stay for the next absorb.
@@ -201,22 +207,22 @@ fn an_absorb_that_is_refused_takes_nothing() {
     let (mut narrow, mut wide) =
         (Board::open(1, 1, Ticket::new(0)).unwrap(), Board::open(2, 1, Ticket::new(0)).unwrap());
     let mut line = Line::open(2).unwrap();
-    assert_eq!((line.raise(1, VECTOR), line.raise(0, VECTOR)), (FRESH, FRESH));
-    assert_eq!(narrow.assert(0, VECTOR), Reply::Done);
+    assert_eq!((line.raise(processor(1), VECTOR), line.raise(VP, VECTOR)), (FRESH, FRESH));
+    assert_eq!(narrow.assert(VP, VECTOR), Reply::Done);
     let no_processor = Reply::Refused(Refusal::NoSuchProcessor);
     let no_part = Reply::Refused(Refusal::BadTarget);
-    assert_eq!(narrow.absorb_line(&mut line, 1, PART), no_processor);
+    assert_eq!(narrow.absorb_line(&mut line, processor(1), PART), no_processor);
     assert_eq!(narrow.notices().len(), 0);
-    assert_eq!(narrow.absorb_line(&mut line, 0, 4), no_part);
-    assert_eq!(wide.absorb_line(&mut line, 2, PART), no_processor);
-    assert_eq!(wide.absorb_line(&mut line, 255, PART), no_processor);
+    assert_eq!(narrow.absorb_line(&mut line, VP, 4), no_part);
+    assert_eq!(wide.absorb_line(&mut line, processor(2), PART), no_processor);
+    assert_eq!(wide.absorb_line(&mut line, processor(63), PART), no_processor);
     // The words of the next processor are four words further on.
-    assert_eq!(wide.absorb_line(&mut line, 0, 4 + PART), no_part);
-    assert_eq!(wide.absorb_line(&mut line, 1, 255), no_part);
-    assert_eq!((line.raise(1, VECTOR), line.raise(0, VECTOR)), (ALREADY, ALREADY));
-    absorbs(&mut wide, &mut line, 1, PART, &[VECTOR]);
-    absorbs(&mut wide, &mut line, 0, PART, &[VECTOR]);
-    assert_eq!((line.raise(1, VECTOR), line.raise(0, VECTOR)), (FRESH, FRESH));
+    assert_eq!(wide.absorb_line(&mut line, VP, 4 + PART), no_part);
+    assert_eq!(wide.absorb_line(&mut line, processor(1), 255), no_part);
+    assert_eq!((line.raise(processor(1), VECTOR), line.raise(VP, VECTOR)), (ALREADY, ALREADY));
+    absorbs(&mut wide, &mut line, processor(1), PART, &[VECTOR]);
+    absorbs(&mut wide, &mut line, VP, PART, &[VECTOR]);
+    assert_eq!((line.raise(processor(1), VECTOR), line.raise(VP, VECTOR)), (FRESH, FRESH));
 }
 
 /// Words of fewer processors than the board has yield nothing for the others.
@@ -224,12 +230,15 @@ fn an_absorb_that_is_refused_takes_nothing() {
 fn words_of_fewer_processors_give_nothing_for_the_others() {
     let mut board = Board::open(8, 1, Ticket::new(0)).unwrap();
     let mut line = Line::open(2).unwrap();
-    assert_eq!((line.raise(0, VECTOR), line.raise(1, VECTOR), line.raise(2, VECTOR)), (FRESH, FRESH, None));
-    for vp in 2..8 {
+    assert_eq!(
+        (line.raise(VP, VECTOR), line.raise(processor(1), VECTOR), line.raise(processor(2), VECTOR)),
+        (FRESH, FRESH, None)
+    );
+    for vp in Vp::below(8).skip(2) {
         absorbs(&mut board, &mut line, vp, PART, &[]);
         assert_eq!(board.absorb_line(&mut line, vp, 4), Reply::Refused(Refusal::BadTarget));
     }
-    assert_eq!((line.raise(0, VECTOR), line.raise(1, VECTOR)), (ALREADY, ALREADY));
+    assert_eq!((line.raise(VP, VECTOR), line.raise(processor(1), VECTOR)), (ALREADY, ALREADY));
 }
 
 /// Suspending and resetting affect only the board: raised bits stay set.
@@ -237,15 +246,15 @@ fn words_of_fewer_processors_give_nothing_for_the_others() {
 fn a_suspension_and_a_reset_leave_what_was_raised() {
     let mut board = Board::open(1, 1, Ticket::new(0)).unwrap();
     let mut line = Line::open(1).unwrap();
-    assert_eq!(board.suspend(0), Reply::Done);
-    assert_eq!(line.raise(0, VECTOR), FRESH);
-    absorbs(&mut board, &mut line, 0, PART, &[VECTOR]);
-    assert_eq!(board.take(0), Reply::Taken(None));
-    assert_eq!(line.raise(0, VECTOR), FRESH);
-    assert_eq!(board.reset(0), Reply::Done);
-    assert_eq!((line.raise(0, VECTOR), board.next(0)), (ALREADY, None));
-    absorbs(&mut board, &mut line, 0, PART, &[VECTOR]);
-    assert_eq!(board.next(0), Some(VECTOR));
+    assert_eq!(board.suspend(VP), Reply::Done);
+    assert_eq!(line.raise(VP, VECTOR), FRESH);
+    absorbs(&mut board, &mut line, VP, PART, &[VECTOR]);
+    assert_eq!(board.take(VP), Reply::Taken(None));
+    assert_eq!(line.raise(VP, VECTOR), FRESH);
+    assert_eq!(board.reset(VP), Reply::Done);
+    assert_eq!((line.raise(VP, VECTOR), board.next(VP)), (ALREADY, None));
+    absorbs(&mut board, &mut line, VP, PART, &[VECTOR]);
+    assert_eq!(board.next(VP), Some(VECTOR));
 }
 
 /// A line is opened in one thread, used in another, and dropped in a third.
@@ -255,14 +264,14 @@ fn a_line_goes_to_other_threads() {
     let mut line = Line::open(1).unwrap();
     let mut other = line.split().unwrap();
     let used = thread::spawn(move || {
-        assert_eq!(line.raise(0, VECTOR), FRESH);
+        assert_eq!(line.raise(VP, VECTOR), FRESH);
         vec![Box::new(line)]
     });
     let lines = used.join().unwrap();
-    assert_eq!(other.raise(0, VECTOR), ALREADY);
+    assert_eq!(other.raise(VP, VECTOR), ALREADY);
     thread::spawn(move || drop(lines)).join().unwrap();
-    absorbs(&mut board, &mut other, 0, PART, &[VECTOR]);
-    assert_eq!(other.raise(0, VECTOR), FRESH);
+    absorbs(&mut board, &mut other, VP, PART, &[VECTOR]);
+    assert_eq!(other.raise(VP, VECTOR), FRESH);
 }
 
 /// A count for each vector of each processor.
@@ -278,9 +287,10 @@ fn raise_all(mut line: Line, device: u8, times: u32) -> Tally {
     let vectors: Vec<_> = numbers.filter_map(Vector::new).collect();
     for _ in 0..times {
         for &vector in &vectors {
-            for vp in 0..8 {
+            for vp in Vp::below(8) {
                 let raised = line.raise(vp, vector).unwrap();
-                fresh[usize::from(vp)][usize::from(vector.number())] += u32::from(raised == Raised::Fresh);
+                fresh[usize::from(vp.number())][usize::from(vector.number())] +=
+                    u32::from(raised == Raised::Fresh);
             }
         }
     }
@@ -290,11 +300,11 @@ fn raise_all(mut line: Line, device: u8, times: u32) -> Tally {
 /// Absorbs every part of every processor, and counts the requested vectors. The processor takes and
 /// ends all of them, so that the next absorb emits a notice for each vector again.
 fn absorb_all(board: &mut Board, line: &mut Line, absorbed: &mut Tally) {
-    for (vp, absorbed) in (0..8).zip(absorbed) {
+    for (vp, absorbed) in Vp::below(8).zip(absorbed) {
         for part in 0..PARTS {
             assert_eq!(board.absorb_line(line, vp, part), Reply::Done);
             let requested = |notice| match notice {
-                Notice::Requested { vp: of, vector } if of.number() == vp => vector,
+                Notice::Requested { vp: of, vector } if of == vp => vector,
                 notice => panic!("{notice:?}"),
             };
             let vectors: Vec<_> = board.notices().map(requested).collect();
@@ -351,7 +361,7 @@ fn each_fresh_raise_is_absorbed_once() {
     assert_eq!(absorbed, sums(&fresh));
     let never = absorbed.iter().flat_map(|absorbed| &absorbed[16..]).filter(|&&count| count == 0);
     assert_eq!(never.count(), 0);
-    for vp in 0..8 {
+    for vp in Vp::below(8) {
         for part in 0..PARTS {
             absorbs(&mut board, &mut line, vp, part, &[]);
         }

@@ -12,9 +12,14 @@ use synicboard::{
     Refusal, Reply, Sint, Ticket, TimerId, Vector, Vp, PAGE_BYTES,
 };
 
-const VP: Vp = Vp::new(0).unwrap();
-const SINT: Sint = Sint::new(2).unwrap();
+const VP: Vp = Vp::ZERO;
+const SINT: Sint = Sint::SINT2;
 const VECTOR: Vector = Vector::new(0x50).unwrap();
+
+/// Processor `number`.
+const fn processor(number: u8) -> Vp {
+    Vp::new(number).unwrap()
+}
 
 /// Where the slot of SINT2 is in a message page, and its flags in an event flags page.
 const SLOT: usize = 0x200;
@@ -25,10 +30,10 @@ const PENDING_AT: usize = SLOT + 5;
 fn booted(mut board: Board) -> Board {
     let registers = [(SCONTROL, 1), (SIMP, 0x2001), (SIEFP, 0x3001), (SINT0 + 2, 0x2_0050)];
     for (register, value) in registers {
-        assert_eq!(board.write(0, register, value), Reply::Done);
+        assert_eq!(board.write(VP, register, value), Reply::Done);
     }
-    assert_eq!(board.open_message_port(Port::new(3), 0, 2, 2), Reply::Done);
-    assert_eq!(board.open_event_port(Port::new(5), 0, 2, 8, 64), Reply::Done);
+    assert_eq!(board.open_message_port(Port::new(3), VP, SINT, 2), Reply::Done);
+    assert_eq!(board.open_event_port(Port::new(5), VP, SINT, 8, 64), Reply::Done);
     board
 }
 
@@ -40,7 +45,7 @@ fn post(payload: &[u8]) -> Event {
     Event::Post { port: Port::new(3), kind: 1, payload: PayloadBytes::new(payload).unwrap() }
 }
 
-const END_MESSAGE: Event = Event::Write { vp: 0, register: EOM, value: 0 };
+const END_MESSAGE: Event = Event::Write { vp: VP, register: EOM, value: 0 };
 
 /// Performs an event after which the board performs no EOM.
 fn act(board: &mut LiveBoard, event: &Event) -> Reply {
@@ -85,7 +90,7 @@ fn live_pages_have_the_bytes_of_the_pages_of_the_board() {
     assert_eq!(board.post(Port::new(3), 1, b"hello"), Reply::Accepted(Ticket::new(7)));
     assert_eq!(board.signal(Port::new(5), 63), Reply::FlagWasClear);
     assert_eq!(board.notices().len(), 1);
-    let (messages, flags) = (*board.message_page(0).unwrap(), *board.flag_page(0).unwrap());
+    let (messages, flags) = (*board.message_page(VP).unwrap(), *board.flag_page(VP).unwrap());
     let live = board.into_live().unwrap();
     assert_eq!(bytes(live.message_page(VP)), messages);
     assert_eq!(bytes(live.flag_page(VP)), flags);
@@ -96,9 +101,9 @@ fn live_pages_have_the_bytes_of_the_pages_of_the_board() {
     assert_eq!(bytes(live.flag_page(other)), [0; PAGE_BYTES]);
     let board = live.board();
     assert_eq!((board.processors(), board.pages(), board.next_ticket()), (2, 4, Ticket::new(8)));
-    assert_eq!((board.slot_ticket(0, 2), board.next(0)), (Some(Ticket::new(7)), Some(VECTOR)));
+    assert_eq!((board.slot_ticket(VP, SINT), board.next(VP)), (Some(Ticket::new(7)), Some(VECTOR)));
     assert_eq!((board.owner(2), board.owner(3)), (Owner::Sim(VP), Owner::Sief(VP)));
-    assert_eq!(*board.message_page(0).unwrap(), messages);
+    assert_eq!(*board.message_page(VP).unwrap(), messages);
     assert_notices(&live, &[]);
     let shown =
         "LiveBoard { board: Board { processors: 2, pages: 4, moment: 0, next_ticket: Ticket(8), .. }, .. }";
@@ -107,40 +112,46 @@ fn live_pages_have_the_bytes_of_the_pages_of_the_board() {
 
 #[test]
 fn each_processor_has_two_pages_of_its_own() {
-    let mut board = Board::open_sparse(8, Ticket::new(0)).unwrap().into_live().unwrap();
-    let processors: [Vp; 8] = core::array::from_fn(|number| Vp::new(number as u8).unwrap());
-    let mut addresses: Vec<_> = processors
-        .iter()
-        .flat_map(|&vp| [board.message_page(vp), board.flag_page(vp)])
+    let board = Board::open_sparse(8, Ticket::new(0)).unwrap().into_live().unwrap();
+    let mut addresses: Vec<_> = Vp::below(8)
+        .flat_map(|vp| [board.message_page(vp), board.flag_page(vp)])
         .map(|page| page as usize)
         .collect();
     assert!(addresses.iter().all(|&address| address != 0 && address % PAGE_BYTES == 0));
     addresses.sort();
     addresses.dedup();
     assert_eq!(addresses.len(), 16);
-    for vp in 0..8 {
+}
+
+#[test]
+fn each_processor_uses_its_own_pages() {
+    let mut board = Board::open_sparse(8, Ticket::new(0)).unwrap().into_live().unwrap();
+    for vp in Vp::below(8) {
+        let number = vp.number();
         for (register, page) in [(SIMP, 16), (SIEFP, 32)] {
-            let value = (page + u64::from(vp)) << 12 | 1;
+            let value = (page + u64::from(number)) << 12 | 1;
             assert_eq!(act(&mut board, &Event::Write { vp, register, value }), Reply::Done);
         }
         assert_eq!(act(&mut board, &Event::Write { vp, register: SCONTROL, value: 1 }), Reply::Done);
-        let open =
-            [(vp, PortShape::Messages { buffers: 1 }), (8 + vp, PortShape::Flags { base: 0, count: 2048 })];
+        let open = [
+            (number, PortShape::Messages { buffers: 1 }),
+            (8 + number, PortShape::Flags { base: 0, count: 2048 }),
+        ];
         for (port, shape) in open {
             assert_eq!(
-                act(&mut board, &Event::OpenPort { port: Port::new(port), vp, sint: 15, shape }),
+                act(&mut board, &Event::OpenPort { port: Port::new(port), vp, sint: Sint::SINT15, shape }),
                 Reply::Done
             );
         }
         let payload = PayloadBytes::new(&[]).unwrap();
-        let post = Event::Post { port: Port::new(vp), kind: 100 + u32::from(vp), payload };
-        assert_eq!(act(&mut board, &post), Reply::Accepted(Ticket::new(u64::from(vp))));
+        let post = Event::Post { port: Port::new(number), kind: 100 + u32::from(number), payload };
+        assert_eq!(act(&mut board, &post), Reply::Accepted(Ticket::new(u64::from(number))));
         assert_eq!(
-            act(&mut board, &Event::Signal { port: Port::new(8 + vp), flag: 2047 }),
+            act(&mut board, &Event::Signal { port: Port::new(8 + number), flag: 2047 }),
             Reply::FlagWasClear
         );
     }
-    for vp in processors {
+    for vp in Vp::below(8) {
         assert_eq!(bytes(board.message_page(vp))[0xf00], 100 + vp.number());
         assert_eq!(bytes(board.flag_page(vp))[0xfff], 0x80);
     }
@@ -149,14 +160,15 @@ fn each_processor_has_two_pages_of_its_own() {
 #[test]
 fn a_processor_that_is_not_on_the_board_has_no_pages() {
     let mut board = live();
-    let beyond = Vp::new(2).unwrap();
-    assert!(board.message_page(beyond).is_null() && board.flag_page(beyond).is_null());
-    for vp in [2, 8, 255] {
+    for vp in Vp::below(64).skip(2) {
+        assert!(board.message_page(vp).is_null() && board.flag_page(vp).is_null());
+    }
+    for vp in [2, 8, 63].map(processor) {
         assert_eq!(board.observe(vp), Reply::Refused(Refusal::NoSuchProcessor));
         assert_eq!(board.observe_all(vp), Reply::Refused(Refusal::NoSuchProcessor));
     }
-    assert_eq!(board.observe(1), Reply::Done);
-    assert_eq!(board.observe_all(1), Reply::Done);
+    assert_eq!(board.observe(processor(1)), Reply::Done);
+    assert_eq!(board.observe_all(processor(1)), Reply::Done);
     assert_notices(&board, &[]);
 }
 
@@ -168,11 +180,11 @@ fn a_message_that_the_guest_has_emptied_is_consumed_at_the_next_look() {
     assert_eq!(page[SLOT..SLOT + 6], [1, 0, 0, 0, 5, 0]);
     assert_eq!(page[SLOT + 16..SLOT + 21], *b"hello");
     empty(&board);
-    assert_eq!(board.board().slot_ticket(0, 2), Some(Ticket::new(0)));
-    assert_eq!(board.observe(0), Reply::Done);
+    assert_eq!(board.board().slot_ticket(VP, SINT), Some(Ticket::new(0)));
+    assert_eq!(board.observe(VP), Reply::Done);
     assert_notices(&board, &[consumed(0)]);
-    assert_eq!(board.board().slot_ticket(0, 2), None);
-    assert_eq!(board.observe(0), Reply::Done);
+    assert_eq!(board.board().slot_ticket(VP, SINT), None);
+    assert_eq!(board.observe(VP), Reply::Done);
     assert_notices(&board, &[]);
 }
 
@@ -180,7 +192,7 @@ fn a_message_that_the_guest_has_emptied_is_consumed_at_the_next_look() {
 fn a_post_finds_the_slot_that_the_guest_has_emptied() {
     let mut board = live();
     assert_eq!(act(&mut board, &post(&[1])), Reply::Accepted(Ticket::new(0)));
-    assert_eq!(act(&mut board, &Event::Take { vp: 0 }), Reply::Taken(Some(VECTOR)));
+    assert_eq!(act(&mut board, &Event::Take { vp: VP }), Reply::Taken(Some(VECTOR)));
     empty(&board);
     assert_eq!(act(&mut board, &post(&[2])), Reply::Accepted(Ticket::new(1)));
     let (ticket, vp, sint) = (Ticket::new(1), VP, SINT);
@@ -198,7 +210,7 @@ fn a_post_finds_the_slot_that_the_guest_has_emptied() {
 fn an_eom_places_the_message_that_waits() {
     let mut board = live();
     assert_eq!(act(&mut board, &post(&[1])), Reply::Accepted(Ticket::new(0)));
-    assert_eq!(act(&mut board, &Event::Take { vp: 0 }), Reply::Taken(Some(VECTOR)));
+    assert_eq!(act(&mut board, &Event::Take { vp: VP }), Reply::Taken(Some(VECTOR)));
     assert_eq!(act(&mut board, &post(&[2])), Reply::Accepted(Ticket::new(1)));
     let (ticket, vp, sint) = (Ticket::new(1), VP, SINT);
     assert_notices(&board, &[Notice::Accepted { ticket, vp, sint }, Notice::Pending { vp, sint }]);
@@ -244,20 +256,20 @@ fn a_line_is_absorbed() {
     let mut board = live();
     let mut line = Line::open(2).unwrap();
     let vector = Vector::new(200).unwrap();
-    assert_eq!(line.raise(1, vector), Some(Raised::Fresh));
-    assert_eq!(board.absorb_line(&mut line, 1, 3), Reply::Done);
+    assert_eq!(line.raise(processor(1), vector), Some(Raised::Fresh));
+    assert_eq!(board.absorb_line(&mut line, processor(1), 3), Reply::Done);
     assert_notices(&board, &[Notice::Requested { vp: Vp::new(1).unwrap(), vector }]);
-    assert_eq!(board.board().next(1), Some(vector));
-    assert_eq!(line.raise(1, vector), Some(Raised::Fresh));
-    assert_eq!(board.absorb_line(&mut line, 2, 3), Reply::Refused(Refusal::NoSuchProcessor));
-    assert_eq!(line.raise(1, vector), Some(Raised::Already));
+    assert_eq!(board.board().next(processor(1)), Some(vector));
+    assert_eq!(line.raise(processor(1), vector), Some(Raised::Fresh));
+    assert_eq!(board.absorb_line(&mut line, processor(2), 3), Reply::Refused(Refusal::NoSuchProcessor));
+    assert_eq!(line.raise(processor(1), vector), Some(Raised::Already));
 }
 
 #[test]
 fn a_timer_stores_its_message_in_the_live_page() {
     let mut board = live();
     for (register, value) in [(STIMER0_COUNT, 50), (STIMER0_CONFIG, 0x2_0001)] {
-        assert_eq!(act(&mut board, &Event::Write { vp: 0, register, value }), Reply::Done);
+        assert_eq!(act(&mut board, &Event::Write { vp: VP, register, value }), Reply::Done);
     }
     let timer = TimerId::new(VP, 0).unwrap();
     assert_eq!(board.board().earliest(), Some((50, timer)));
@@ -276,7 +288,7 @@ fn a_reset_withdraws_what_the_guest_has_not_consumed() {
     }
     empty(&board);
     store(board.flag_page(VP), 0, &[0xff; 8]);
-    assert_eq!(act(&mut board, &Event::Reset { vp: 0 }), Reply::Done);
+    assert_eq!(act(&mut board, &Event::Reset { vp: VP }), Reply::Done);
     assert_notices(&board, &[consumed(0), Notice::Withdrawn { ticket: Ticket::new(1), vp: VP, sint: SINT }]);
     assert_eq!(bytes(board.message_page(VP)), [0; PAGE_BYTES]);
     assert_eq!(bytes(board.flag_page(VP)), [0; PAGE_BYTES]);
@@ -290,15 +302,15 @@ fn an_image_has_what_the_guest_has_stored() {
     empty(&board);
     store(board.message_page(VP), 0xfff, &[0xa5]);
     store(board.flag_page(VP), 0xfff, &[0x5a]);
-    assert_ne!(board.board().message_page(0), Some(&bytes(board.message_page(VP))));
-    for vp in 0..2 {
+    assert_ne!(board.board().message_page(VP), Some(&bytes(board.message_page(VP))));
+    for vp in Vp::below(2) {
         assert_eq!(board.observe_all(vp), Reply::Done);
-        let found = if vp == 0 { vec![consumed(0)] } else { Vec::new() };
+        let found = if vp == VP { vec![consumed(0)] } else { Vec::new() };
         assert_notices(&board, &found);
     }
     let pages = (bytes(board.message_page(VP)), bytes(board.flag_page(VP)));
-    assert_eq!(board.board().message_page(0), Some(&pages.0));
-    assert_eq!(board.board().flag_page(0), Some(&pages.1));
+    assert_eq!(board.board().message_page(VP), Some(&pages.0));
+    assert_eq!(board.board().flag_page(VP), Some(&pages.1));
     let mut room = vec![0; 1 << 17];
     let length = board.save(&mut room).unwrap();
     drop(board);
@@ -341,7 +353,7 @@ fn a_live_board_goes_to_other_threads() {
     assert_eq!(boards[0].message_page(VP) as usize, page);
     assert_eq!(bytes(boards[0].message_page(VP))[SLOT], 1);
     empty(&boards[0]);
-    assert_eq!(boards[0].observe(0), Reply::Done);
+    assert_eq!(boards[0].observe(VP), Reply::Done);
     assert_notices(&boards[0], &[consumed(0)]);
     thread::spawn(move || drop(boards)).join().unwrap();
 }
@@ -415,7 +427,7 @@ fn run_guest(machine: &Mutex<Machine>, slot: &Words, count: u64, mut receive: im
     let limit = Limit::new();
     let mut received = 0;
     while received < count {
-        if machine.lock().unwrap().perform(&Event::Take { vp: 0 }).reply != Reply::Taken(Some(VECTOR)) {
+        if machine.lock().unwrap().perform(&Event::Take { vp: VP }).reply != Reply::Taken(Some(VECTOR)) {
             limit.wait();
             continue;
         }
@@ -444,7 +456,7 @@ fn run(count: u64, receive: impl FnMut(u64, &Words) + Send, host: impl FnOnce(&M
         host(&machine);
     });
     let mut machine = machine.into_inner().unwrap();
-    assert_eq!(machine.board.observe(0), Reply::Done);
+    assert_eq!(machine.board.observe(VP), Reply::Done);
     machine.count();
     machine
 }
@@ -466,7 +478,7 @@ fn a_running_guest_receives_each_message_once_and_in_order() {
             }
         }
     });
-    assert_eq!((machine.consumed, machine.board.board().queued(0, 2)), (MESSAGES, 0));
+    assert_eq!((machine.consumed, machine.board.board().queued(VP, SINT)), (MESSAGES, 0));
     assert_eq!(machine.board.board().next_ticket(), Ticket::new(MESSAGES));
 }
 
@@ -482,7 +494,7 @@ fn a_running_guest_receives_each_message_of_a_timer() {
     let machine = run(EXPIRATIONS, receive, |machine| {
         let limit = Limit::new();
         for (register, value) in [(STIMER0_COUNT, 10), (STIMER0_CONFIG, 0x2_0003)] {
-            let write = Event::Write { vp: 0, register, value };
+            let write = Event::Write { vp: VP, register, value };
             assert_eq!(machine.lock().unwrap().perform(&write).reply, Reply::Done);
         }
         for moment in (10..).step_by(10) {

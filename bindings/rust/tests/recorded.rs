@@ -11,6 +11,9 @@ use synicboard::{
 
 const VECTOR: Vector = Vector::new(0x60).unwrap();
 const PART: u8 = 1;
+const VP: Vp = Vp::ZERO;
+const SECOND: Vp = Vp::new(1).unwrap();
+const THIRD: Vp = Vp::new(2).unwrap();
 
 #[test]
 fn sizes_outside_the_limits_are_refused() {
@@ -25,14 +28,17 @@ fn a_room_has_the_notices_of_the_last_event() -> Result<(), Box<dyn Error>> {
     let board = RecordedBoard::open(1, 1, Ticket::new(0))?;
     let mut room = NoticeRoom::new();
     assert_eq!(room.notices().len(), 0);
-    assert_eq!(board.act(0, &Event::Assert { vp: 0, vector: VECTOR }, &mut room)?, Reply::Done);
-    let requested = Notice::Requested { vp: Vp::new(0).unwrap(), vector: VECTOR };
+    assert_eq!(board.act(0, &Event::Assert { vp: VP, vector: VECTOR }, &mut room)?, Reply::Done);
+    let requested = Notice::Requested { vp: VP, vector: VECTOR };
     assert_eq!(room.notices().collect::<Vec<_>>(), [requested]);
-    assert_eq!(board.next(0), Some(VECTOR));
-    assert_eq!(board.act(0, &Event::Take { vp: 0 }, &mut room)?, Reply::Taken(Some(VECTOR)));
+    assert_eq!(board.next(VP), Some(VECTOR));
+    assert_eq!(board.act(0, &Event::Take { vp: VP }, &mut room)?, Reply::Taken(Some(VECTOR)));
     assert_eq!(room.notices().len(), 0);
-    assert_eq!(board.next(0), None);
-    assert_eq!(board.act(0, &Event::Take { vp: 1 }, &mut room)?, Reply::Refused(Refusal::NoSuchProcessor));
+    assert_eq!(board.next(VP), None);
+    assert_eq!(
+        board.act(0, &Event::Take { vp: SECOND }, &mut room)?,
+        Reply::Refused(Refusal::NoSuchProcessor)
+    );
     assert_eq!(board.settle(&mut []).verdict, Verdict::Legal { entries: 3 });
     Ok(())
 }
@@ -44,9 +50,9 @@ fn the_first_timer_is_seen() -> Result<(), Box<dyn Error>> {
     assert_eq!(board.earliest(), None);
     // Timer 2 of the processor is a one-shot in direct mode, with vector 60, due at 100.
     for (register, value) in [(0x4000_00b4, 0x1609), (0x4000_00b5, 100)] {
-        assert_eq!(board.act(0, &Event::Write { vp: 0, register, value }, &mut room)?, Reply::Done);
+        assert_eq!(board.act(0, &Event::Write { vp: VP, register, value }, &mut room)?, Reply::Done);
     }
-    assert_eq!(board.earliest(), TimerId::new(Vp::new(0).unwrap(), 2).map(|timer| (100, timer)));
+    assert_eq!(board.earliest(), TimerId::new(VP, 2).map(|timer| (100, timer)));
     Ok(())
 }
 
@@ -60,13 +66,13 @@ fn the_trace_is_told_in_the_order_of_the_lock() -> Result<(), Box<dyn Error>> {
     let board = RecordedBoard::open(2, 4, Ticket::new(7))?;
     let mut line = Line::open(2)?;
     let mut room = NoticeRoom::new();
-    let write = Event::Write { vp: 0, register: SCONTROL, value: 1 };
+    let write = Event::Write { vp: VP, register: SCONTROL, value: 1 };
     assert_eq!(board.act(200, &write, &mut room)?, Reply::Done);
-    assert_eq!(line.raise(1, VECTOR), Some(Raised::Fresh));
-    assert_eq!(board.absorb(0, &mut line, 1, PART, &mut room)?, (Reply::Done, 1 << 32));
+    assert_eq!(line.raise(SECOND, VECTOR), Some(Raised::Fresh));
+    assert_eq!(board.absorb(0, &mut line, SECOND, PART, &mut room)?, (Reply::Done, 1 << 32));
     assert_eq!(room.notices().len(), 1);
     let refused = Reply::Refused(Refusal::NoSuchProcessor);
-    assert_eq!(board.absorb(0, &mut line, 2, PART, &mut room)?, (refused, 0));
+    assert_eq!(board.absorb(0, &mut line, THIRD, PART, &mut room)?, (refused, 0));
     let mut trace = [0; 200];
     let settled = board.settle(&mut trace);
     assert_eq!(settled.verdict, Verdict::Legal { entries: 3 });
@@ -79,39 +85,46 @@ fn the_trace_is_told_in_the_order_of_the_lock() -> Result<(), Box<dyn Error>> {
     Ok(())
 }
 
+const PROCESSORS: u8 = 3;
+const TURNS: u64 = 300;
+
+/// A processor absorbs, takes and ends, `TURNS` times. Returns how many vectors it absorbed.
+fn run(board: &RecordedBoard, vp: Vp, line: &mut Line) -> u64 {
+    let actor = vp.number();
+    let mut room = NoticeRoom::new();
+    let mut absorbed = 0;
+    for _ in 0..TURNS {
+        absorbed += u64::from(board.absorb(actor, line, vp, PART, &mut room).unwrap().1.count_ones());
+        assert!(matches!(board.act(actor, &Event::Take { vp }, &mut room), Ok(Reply::Taken(_))));
+        let end = Event::Write { vp, register: EOI, value: 0 };
+        assert_eq!(board.act(actor, &end, &mut room), Ok(Reply::Done));
+    }
+    absorbed
+}
+
 #[test]
 fn what_threads_did_is_legal_and_loses_nothing() -> Result<(), Box<dyn Error>> {
-    const PROCESSORS: u8 = 3;
-    const TURNS: u64 = 300;
     let board = RecordedBoard::open(PROCESSORS, 1, Ticket::new(0))?;
     let mut of_device = Line::open(PROCESSORS)?;
     let mut lines = Vec::new();
     for _ in 0..PROCESSORS {
         lines.push(of_device.split()?);
     }
-    let run = |vp: u8, line: &mut Line| {
-        let mut room = NoticeRoom::new();
-        let mut absorbed = 0;
-        for _ in 0..TURNS {
-            absorbed += u64::from(board.absorb(vp, line, vp, PART, &mut room).unwrap().1.count_ones());
-            assert!(matches!(board.act(vp, &Event::Take { vp }, &mut room), Ok(Reply::Taken(_))));
-            let end = Event::Write { vp, register: EOI, value: 0 };
-            assert_eq!(board.act(vp, &end, &mut room), Ok(Reply::Done));
-        }
-        absorbed
-    };
     let (fresh, mut absorbed) = thread::scope(|scope| {
-        let run = &run;
-        let threads = lines.iter_mut().zip(0..).map(|(line, vp)| scope.spawn(move || run(vp, line)));
+        let board = &board;
+        let threads = lines
+            .iter_mut()
+            .zip(Vp::below(PROCESSORS))
+            .map(|(line, vp)| scope.spawn(move || run(board, vp, line)));
         let threads: Vec<_> = threads.collect();
         let raises = (0..3000_u32).map(|turn| {
             let vector = Vector::new(64 * PART + (turn % 64) as u8).expect("a vector of the part");
-            of_device.raise((turn % u32::from(PROCESSORS)) as u8, vector)
+            of_device.raise(Vp::new((turn % u32::from(PROCESSORS)) as u8).unwrap(), vector)
         });
         let fresh = raises.filter(|&raised| raised == Some(Raised::Fresh)).count() as u64;
         (fresh, threads.into_iter().map(|thread| thread.join().unwrap()).sum::<u64>())
     });
-    for vp in 0..PROCESSORS {
+    for vp in Vp::below(PROCESSORS) {
         let (_, bits) = board.absorb(0, &mut of_device, vp, PART, &mut NoticeRoom::new())?;
         absorbed += u64::from(bits.count_ones());
     }

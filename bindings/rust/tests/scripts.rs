@@ -10,7 +10,7 @@ use lines::{Lines, Step};
 use std::fs;
 use std::path::{Path, PathBuf};
 use std::str;
-use synicboard::{check, replay, Board, End, OpenFault, Verdict};
+use synicboard::{check, replay, Board, End, Event, OpenFault, Refusal, Reply, Verdict};
 
 /// The files of a folder with this suffix that have a stored output: the path and both contents.
 fn stored(folder: &str, ending: &str) -> Vec<(PathBuf, Vec<u8>, Vec<u8>)> {
@@ -75,6 +75,15 @@ fn tell(board: &mut Board, step: Step) -> String {
             let reply = told::reply(board.perform(&event));
             reply + &board.notices().map(told::notice).collect::<String>()
         }
+        Step::Beyond(event) => told::reply(refused(board, &event)),
+    }
+}
+
+/// The reply to an event with a processor or a source that no board has.
+fn refused(board: &mut Board, event: &Event) -> Reply {
+    match event {
+        Event::OpenPort { .. } => board.perform(event),
+        _ => Reply::Refused(Refusal::NoSuchProcessor),
     }
 }
 
@@ -108,6 +117,11 @@ fn traced(script: &[u8]) -> Option<(Vec<u8>, u64)> {
                 let wanted = [actor.to_string().as_bytes(), b" ", line, b"\n= "].concat();
                 assert!(room[..length].starts_with(&wanted), "{wanted:?}");
                 trace.extend(&room[..length]);
+                entries += 1;
+            }
+            Some(Step::Beyond(event)) => {
+                trace.extend([(entries as u8).to_string().as_bytes(), b" ", line, b"\n"].concat());
+                trace.extend(told::reply(refused(&mut board, &event)).bytes());
                 entries += 1;
             }
         }

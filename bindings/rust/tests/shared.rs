@@ -4,14 +4,14 @@ use std::error::Error;
 use std::sync::Mutex;
 use std::thread;
 use synicboard::msr::EOI;
-use synicboard::{Board, Reply, Ticket, Vector};
+use synicboard::{Board, Reply, Ticket, Vector, Vp};
 
 const ROUNDS: u32 = 10_000;
 const PROCESSORS: u8 = 4;
 const VECTOR: Vector = Vector::new(0x60).unwrap();
 
 /// Requests a vector and takes it, under two holds of the lock; how often it was taken.
-fn run(board: &Mutex<Board>, vp: u8) -> u32 {
+fn run(board: &Mutex<Board>, vp: Vp) -> u32 {
     let mut taken = 0;
     for _ in 0..ROUNDS {
         assert_eq!(board.lock().unwrap().assert(vp, VECTOR), Reply::Done);
@@ -29,7 +29,7 @@ fn threads_share_a_board_by_a_mutex() -> Result<(), Box<dyn Error>> {
     {
         let board = Mutex::new(board);
         let taken: u32 = thread::scope(|scope| {
-            let threads: Vec<_> = (0..PROCESSORS)
+            let threads: Vec<_> = Vp::below(PROCESSORS)
                 .map(|vp| {
                     scope.spawn({
                         let board = &board;

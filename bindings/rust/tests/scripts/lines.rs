@@ -1,7 +1,7 @@
 //! A strict parser of script lines, as in `docs/FORMATS.md`: each event has exactly one line.
 
 use std::str::{self, FromStr};
-use synicboard::{Bytes, Event, PortShape, Ticket, Vector};
+use synicboard::{Bytes, Event, PortShape, Ticket, Vector, Vp};
 
 /// The greatest length of a line, without its line feed.
 const MOST_BYTES: usize = 640;
@@ -37,6 +37,9 @@ impl<'a> Iterator for Lines<'a> {
 /// A parsed line after the board line.
 pub enum Step {
     Event(Box<Event>),
+    /// An event with a processor or a source that no board has and no type. This one has others in their place; if
+    /// it opens a port, it is refused in the same way.
+    Beyond(Box<Event>),
     Summary,
 }
 
@@ -56,11 +59,28 @@ pub fn step(line: &[u8]) -> Option<Step> {
     if fields == ["summary"] {
         return Some(Step::Summary);
     }
-    let event = port_event(&fields)
-        .or_else(|| guest_event(&fields))
-        .or_else(|| host_event(&fields))
-        .or_else(|| processor_event(&fields));
-    event.map(|event| Step::Event(Box::new(event)))
+    let event = event(&fields).map(Box::new).map(Step::Event);
+    event.or_else(|| beyond(&fields).map(Box::new).map(Step::Beyond))
+}
+
+fn event(fields: &[&str]) -> Option<Event> {
+    let event = port_event(fields).or_else(|| guest_event(fields));
+    event.or_else(|| host_event(fields)).or_else(|| processor_event(fields))
+}
+
+fn beyond(fields: &[&str]) -> Option<Event> {
+    let numbers = if fields[0] == "open" { 3..5 } else { 1..2 };
+    let mut fields = fields.to_vec();
+    for field in fields.get_mut(numbers)? {
+        decimal::<u8>(field)?;
+        *field = "0";
+    }
+    match event(&fields)? {
+        Event::OpenPort { port, vp, sint, .. } => {
+            Some(Event::OpenPort { port, vp, sint, shape: PortShape::Messages { buffers: 0 } })
+        }
+        event => Some(event),
+    }
 }
 
 fn fields(line: &[u8]) -> Option<Vec<&str>> {
@@ -116,7 +136,7 @@ fn host_event(fields: &[&str]) -> Option<Event> {
 
 fn processor_event(fields: &[&str]) -> Option<Event> {
     let [word, vp] = *fields else { return None };
-    let vp = decimal(vp)?;
+    let vp: Vp = decimal(vp)?;
     match word {
         "take" => Some(Event::Take { vp }),
         "suspend" => Some(Event::Suspend { vp }),

@@ -1,6 +1,6 @@
 //! The output of a replay, as in `docs/FORMATS.md`: replies, notices and summaries.
 
-use synicboard::{Board, Notice, Owner, Reply, Ticket, Vector};
+use synicboard::{Board, Notice, Owner, Reply, Sint, Ticket, Vector, Vp};
 
 /// The line of a reply.
 pub fn reply(reply: Reply) -> String {
@@ -54,7 +54,7 @@ fn nexts(board: &Board) -> String {
         Some(vector) => format!(": next {vp} {:02x}\n", vector.number()),
         None => format!(": next {vp} none\n"),
     };
-    (0..board.processors()).map(line).collect()
+    board.vps().map(line).collect()
 }
 
 fn autos(board: &Board) -> String {
@@ -64,7 +64,7 @@ fn autos(board: &Board) -> String {
         let words: String = autos.map(|vector| format!(" {:02x}", vector.number())).collect();
         (!words.is_empty()).then(|| format!(": auto {vp}{words}\n"))
     };
-    (0..board.processors()).filter_map(line).collect()
+    board.vps().filter_map(line).collect()
 }
 
 fn timer(board: &Board) -> String {
@@ -85,10 +85,10 @@ fn pages(board: &Board) -> String {
 }
 
 fn queues(board: &Board) -> String {
-    let sources = (0..board.processors()).flat_map(|vp| (0..16).map(move |sint| (vp, sint)));
-    let line = |(vp, sint)| match board.queued(vp, sint) {
+    let sources = board.vps().flat_map(|vp| Sint::ALL.map(move |sint| (vp, sint)));
+    let line = |(vp, sint): (Vp, Sint)| match board.queued(vp, sint) {
         0 => None,
-        length => Some(format!(": queue {vp} {sint} {length}\n")),
+        length => Some(format!(": queue {vp} {} {length}\n", sint.number())),
     };
     sources.filter_map(line).collect()
 }

@@ -1,5 +1,6 @@
-//! Links the static library from the folder that SYNICBOARD_LIB_DIR names; or from `build` at the root of
-//! the repository, if it is there; or from where `./install` put it, as pkg-config says.
+//! Links the static library from the folder that SYNICBOARD_LIB_DIR names, absolute or relative to the folder of
+//! the safe crate; or from `build` at the root of the repository, if it is there; or from where `./install` put it,
+//! as pkg-config says.
 
 use std::env;
 use std::path::{Path, PathBuf};
@@ -12,10 +13,9 @@ fn installed() -> Option<PathBuf> {
     (asked.status.success() && !folder.trim().is_empty()).then(|| PathBuf::from(folder.trim()))
 }
 
-/// The folder to link from, for the crate in `root`.
+/// The folder to link from, for the safe crate in `root`.
 fn folder(root: &Path) -> PathBuf {
     if let Some(folder) = env::var_os("SYNICBOARD_LIB_DIR") {
-        // A relative path starts at the crate's folder, where cargo runs this script.
         return root.join(folder);
     }
     let built = root.join("../../build");
@@ -28,8 +28,9 @@ fn folder(root: &Path) -> PathBuf {
 fn main() {
     println!("cargo:rerun-if-env-changed=SYNICBOARD_LIB_DIR");
     println!("cargo:rerun-if-env-changed=PKG_CONFIG_PATH");
-    let root = env::var_os("CARGO_MANIFEST_DIR").expect("cargo names the folder of the crate");
-    let folder = folder(Path::new(&root));
+    let own = env::var_os("CARGO_MANIFEST_DIR").expect("cargo names the folder of the crate");
+    let root = Path::new(&own).parent().expect("the folder of the safe crate");
+    let folder = folder(root);
     let library = folder.join("libsynicboard.a");
     println!("cargo:rerun-if-changed={}", library.display());
     if !library.exists() {

@@ -1,9 +1,9 @@
 //! Direct calls of the header: closed handles and null pointers, which no `Board` and no `Line`
 //! has, handles that are opened twice, and events as structs.
 
-use ::synicboard::sys::*;
 use std::mem;
 use std::ptr;
+use synicboard_sys::*;
 
 /// A handle that is closed when it is dropped.
 struct Handle(synicboard);

@@ -1,16 +1,18 @@
-//! Compares the text of `src/sys.rs`, and the version of the crate, with the header in `include` at
-//! the root of the repository, or next to the library.
+//! Compares the text of the declarations, and the version of the crates, with the header in `include` at the root
+//! of the repository, next to the library, or where `./install` puts it; and the layouts that the crate asserts with
+//! `packaging/abi`.
 
 use std::fs;
 use std::path::Path;
 
-const OURS: &str = include_str!("../src/sys.rs");
+const OURS: &str = concat!(include_str!("../src/lib.rs"), include_str!("../src/types.rs"));
 
 /// The text of each header that exists, without its comments.
 fn headers() -> Vec<String> {
-    let include = Path::new(env!("CARGO_MANIFEST_DIR")).join("../../include");
-    let folders = [include.as_path(), Path::new(env!("SYNICBOARD_LIB_DIR"))];
-    let texts = folders.map(|folder| fs::read_to_string(folder.join("synicboard.h")).ok());
+    let include = Path::new(env!("CARGO_MANIFEST_DIR")).join("../../../include");
+    let library = Path::new(env!("SYNICBOARD_LIB_DIR"));
+    let folders = [include, library.to_path_buf(), library.join("../include")];
+    let texts = folders.each_ref().map(|folder| fs::read_to_string(folder.join("synicboard.h")).ok());
     let found: Vec<_> = texts.iter().flatten().map(|text| without_comments(text)).collect();
     assert!(!found.is_empty(), "there is no synicboard.h in any of {folders:?}");
     found
@@ -118,17 +120,42 @@ fn calls_of_ours(ours: &str) -> Vec<String> {
     parted.map(|(front, taken)| listed(&front, items(taken, ',').map(str::to_string))).collect()
 }
 
+/// Each struct of `packaging/abi`, which the C compiler wrote: its size, its alignment, and the offset of each
+/// field.
+fn layouts_of_c(text: &str) -> Vec<String> {
+    let mut found: Vec<String> = Vec::new();
+    for line in text.lines() {
+        match *line.split(' ').collect::<Vec<_>>().as_slice() {
+            ["struct", name, "size", size, "alignment", alignment] => {
+                found.push(format!("{name}: {size}, {alignment} {{"));
+            }
+            ["field", field, _, "offset", at] => {
+                let (_, name) = field.split_once('.').unwrap();
+                *found.last_mut().unwrap() += &format!(" {name}: {at},");
+            }
+            _ => {}
+        }
+    }
+    found
+}
+
+fn layouts_of_ours() -> Vec<String> {
+    let list = include_str!("../src/layout.rs").split_once("layouts! {").unwrap().1;
+    let structs = list.split('}').map(|item| item.split_whitespace().collect::<Vec<_>>().join(" "));
+    structs.filter(|item| !item.is_empty()).map(|item| item.trim_end_matches(',').to_string() + ",").collect()
+}
+
 #[test]
-fn the_crate_has_the_version_of_the_header() {
-    let numbers = [
-        ("MAJOR", env!("CARGO_PKG_VERSION_MAJOR")),
-        ("MINOR", env!("CARGO_PKG_VERSION_MINOR")),
-        ("PATCH", env!("CARGO_PKG_VERSION_PATCH")),
-    ];
+fn both_crates_have_the_version_of_the_header() {
+    let manifests = [include_str!("../Cargo.toml"), include_str!("../../Cargo.toml")];
     for header in headers() {
-        for (part, number) in numbers {
+        let numbers = ["MAJOR", "MINOR", "PATCH"].map(|part| {
             let found = between(&header, &format!("#define SYNICBOARD_VERSION_{part}"), "\n");
-            assert_eq!(found, [number], "{part}");
+            assert_eq!(found.len(), 1, "{part}");
+            found[0].clone()
+        });
+        for manifest in manifests {
+            assert_eq!(between(manifest, "\nversion = \"", "\""), [numbers.join(".")]);
         }
     }
 }
@@ -144,4 +171,13 @@ fn each_declaration_is_that_of_the_header() {
         assert_eq!(structs_of_header(&header), structs);
         assert_eq!(calls_of_header(&header), calls);
     }
+}
+
+#[test]
+fn each_struct_has_the_layout_of_c() {
+    let stored = Path::new(env!("CARGO_MANIFEST_DIR")).join("../../../packaging/abi");
+    // The package has no such file. What the crate asserts is the same there.
+    let Ok(stored) = fs::read_to_string(stored) else { return };
+    assert!(layouts_of_ours().len() > 7);
+    assert_eq!(layouts_of_c(&stored), layouts_of_ours());
 }
