@@ -38,10 +38,10 @@ alarm-later s moment = by (least (ready_dues s))
 by-then : (a moment : ℕ) → a ≤ moment → is_alarm_by (Some a) moment ≡ true
 by-then a moment le = grind (arith, nat_tests)
 
-not-yet : (a moment : ℕ) → moment < a → is_alarm_by (Some a) moment ≡ false
+pub not-yet : (a moment : ℕ) → moment < a → is_alarm_by (Some a) moment ≡ false
 not-yet a moment less = grind (arith, nat_tests)
 
-is-first : (s : State) (moment : ℕ) → alarm s ≡ Some moment → IsFirst s moment
+pub is-first : (s : State) (moment : ℕ) → alarm s ≡ Some moment → IsFirst s moment
 is-first s moment is =
     let later : s.moment < moment = alarm-later s moment is in record {
       later = later;

@@ -2,3 +2,4 @@ mod Alarms
 mod Firsts
 mod LateTimer
 mod Moving
+pub mod Hosts

@@ -2,7 +2,7 @@
 //! body, whose clause is the theorem.
 #![tactic(auto)]
 
-ghost use Rattle.std.specs.Prelude.{◌≡◌, ℕ, ◌<◌, ◌^◌, ◌↔◌, true, false, Some, None};
+ghost use Rattle.std.specs.Prelude.{◌≡◌, ℕ, ◌<◌, ◌^◌, ◌↔◌, true, false, List, Some, None};
 ghost use Rattle.board_terms.specs.Dues.{least};
 ghost use Rattle.stimer_bank.specs.Bank.{dues};
 ghost use Rattle.synic_board.specs.State.{State, bank_of};
@@ -10,6 +10,7 @@ ghost use Rattle.synic_board.specs.Timers.{mode_at, is_ready_for};
 ghost use Rattle.synic_board.specs.declared.event.Event.{Event};
 ghost use Rattle.synic_board.specs.Step.{step};
 ghost use Rattle.synic_board.specs.Alarm.{alarm_after, alarm, alarm_in_word};
+ghost use Rattle.law_alarm.specs.Hosts.{Turn, AreInTime, MissNone};
 ghost use Rattle.law_alarm.specs.Alarm.{late_board, deadline_after, is_alarm_by, may_move, IsQuiet, Wakes, IsFirst};
 
 /// A tick before the alarm changes nothing but the time, and emits no notice.
@@ -42,6 +43,14 @@ pub fn other_events_leave_the_alarm()
 pub fn the_alarm_of_a_clock_of_64_bits_serves()
     ensures { (s : State) (moment : ℕ) → moment < 2 ^ 64
         → is_alarm_by (alarm_in_word s) moment ≡ is_alarm_by (alarm s) moment }
+{}
+
+/// A host that makes each call no later than at the alarm after the call before it misses no expiry: no tick between
+/// two calls would have made a timer expire or skip, and a call at the alarm makes one do so. The answer of a call
+/// from C also names each processor that has a next vector (`AreNextBits` of `c_calls`).
+#[tactic(auto, using(crate::proofs::Hosts::misses_none))]
+pub fn a_host_in_time_misses_no_expiry()
+    ensures { (s : State) (turns : List Turn) → AreInTime s turns → MissNone s turns }
 {}
 
 /// If no timer has a deadline there is no alarm; if the earliest timer is ready, the alarm is its deadline, or the

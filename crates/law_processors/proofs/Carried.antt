@@ -113,7 +113,8 @@ module _ (c : Change) (k : IsCarried c) where
   unfolding tried
   carried-tried p i s = carried-either s (delivers s p && nat_lt 0 (length (queue_of s.queues p i)))
       (λ x. if is_slot_empty x p i then after (placed x p i) (raised (placed x p i).0 p i) else marked x p i) nothing
-      (carried-either s (is_slot_empty s p i) (λ x. after (placed x p i) (raised (placed x p i).0 p i)) (λ x. marked x p i)
+      (carried-either s (is_slot_empty s p i) (λ x. after (placed x p i) (raised (placed x p i).0 p i))
+      (λ x. marked x p i)
       (k.joined (λ x. placed x p i) (λ x. raised x p i) (carried-placed p i) (carried-raised p i) s)
       (k.kept (marked s p i)))
       (carried-nothing s)

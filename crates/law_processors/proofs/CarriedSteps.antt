@@ -187,7 +187,8 @@ module _ (c : Change) (k : IsCarried c) where
   carried-absorb : (p part bits : ℕ) → CarriesTo (λ s. absorbed s p part bits)
   carried-absorb p part bits s =
       cases s (nat_le part 3) (λ x. answered Done (absorbed_below x p part bits 64)) (λ x. refused x BadTarget)
-      (same-answer Done s (λ x. absorbed_below x p part bits 64) (carried-absorbed c k p part bits 64 s)) (carried-unchanged s _)
+      (same-answer Done s (λ x. absorbed_below x p part bits 64) (carried-absorbed c k p part bits 64 s))
+      (carried-unchanged s _)
 
   carried-sent : (v mask : ℕ) → CarriesTo (λ s. sent s v mask)
   carried-sent v mask s =

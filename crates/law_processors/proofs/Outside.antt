@@ -60,7 +60,8 @@ present : (v q : ℕ) (r : Vectors) → finset.contains r v ≡ true → (eq_by_
 present v q r has = by (cases_eq q v)
   where
     by : (q ≡ v) ⊎ (q ≢ v) → (eq_by_cmp nat_cmp q v || finset.contains r q) ≡ finset.contains r q
-    by (inl same) = let here : finset.contains r q ≡ true = ap (finset.contains r) same ∙ has in grind (arith, nat_tests)
+    by (inl same) =
+        let here : finset.contains r q ≡ true = ap (finset.contains r) same ∙ has in grind (arith, nat_tests)
     by (inr other) = grind (arith, nat_tests)
 
 request-again : (a : Apic) (v : ℕ) → finset.contains a.requested v ≡ true → request a v ≡ a
@@ -188,7 +189,8 @@ module _ (p : ℕ) (vectors : Vectors) where
   join-end : (a : Apic) → after_end (join vectors a) ≡ join vectors (after_end a)
   join-end a =
       elim (greatest a.in_service) as
-      (λ o. option_map_or (λ v. record (join vectors a) { in_service = finset.remove a.in_service v }) o (join vectors a)
+      (λ o.
+      option_map_or (λ v. record (join vectors a) { in_service = finset.remove a.in_service v }) o (join vectors a)
       ≡ join vectors (option_map_or (λ v. record a { in_service = finset.remove a.in_service v }) o a))
       [ None ↦ refl | Some v ↦ refl ]
 
@@ -240,7 +242,8 @@ module _ (p : ℕ) (vectors : Vectors) where
       → (step (h s) event).0 ≡ h (step s event).0
   after-event s event e =
       ap (λ (o : Outcome). o.0)
-      (carried-step to_more more-carried (ends_requests p) (λ q. refl) (λ s q number _. reads s q number) clears s event e)
+      (carried-step to_more more-carried (ends_requests p) (λ q. refl) (λ s q number _. reads s q number) clears s
+      event e)
 
 -- what is taken over stays requested, on the board or outside
 pub taken-once : (s : State) (p : ℕ) (outside vectors : Vectors)

@@ -31,7 +31,8 @@ said-few n s (e ∷ h) all =
     (said-few n (step s e.event).0 h (All-tail (λ (x : Entry). x.actor < n) e h all))
 
 -- in a legal history, the events and replies of its entries
-pub said-legal : (s : State) (h : List Entry) → IsLegal s h → map (λ (x : Said). call_in x.1) (said_from s h) ≡ map call_of h
+pub said-legal : (s : State) (h : List Entry) → IsLegal s h
+    → map (λ (x : Said). call_in x.1) (said_from s h) ≡ map call_of h
 unfolding said_from run_of
 said-legal s [] legal = refl
 said-legal s (e ∷ h) legal =

@@ -32,7 +32,8 @@ pub record IsOneThread (start now : State) (history : List Entry) : Type 0 where
 
 -- An event among the calls of a run of one thread, in which the actor's calls before it are the actor's: after those
 -- before it, the reference model answers it so.
-pub record IsAnswered (start : State) (a : Calling) (event : Event) (reply : Reply) (notices : List Notice) : Type 0 where
+pub record IsAnswered (start : State) (a : Calling) (event : Event) (reply : Reply) (notices : List Notice)
+    : Type 0 where
   pub before : List Entry
   pub mid : State
   pub run : IsOneThread start mid before

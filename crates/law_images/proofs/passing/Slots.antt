@@ -81,7 +81,8 @@ module _ (s : State) (h : IsBoardState s) (t : State) (full : processors t ≡ p
     occupies = record {
       occupied = occupied;
       free = front-new j j s.slots None None (omega arith) inside;
-      ahead = subst (λ qs. All (λ m. x < ticket_of m) (queue_of qs p i)) (sym queues) (first (slot_of s p i) is (h.buffers.timed.ahead j));
+      ahead = subst (λ qs. All (λ m. x < ticket_of m) (queue_of qs p i)) (sym queues)
+          (first (slot_of s p i) is (h.buffers.timed.ahead j));
       ticket = record { given = omega (arith, given, next); nowhere = nowhere };
     }
 

@@ -86,7 +86,8 @@ unfolding tried
 buffers-tried s p i h =
     either (λ (e : Effect). HasBuffers e.0) (delivers s p && nat_lt 0 (length (queue_of s.queues p i))) _ _
     (λ _. either (λ (e : Effect). HasBuffers e.0) (is_slot_empty s p i) _ _
-    (λ _. buffers-raised (placed s p i).0 p i (buffers-placed s p i h)) (λ _. alike s _ refl refl refl refl refl refl h))
+    (λ _. buffers-raised (placed s p i).0 p i (buffers-placed s p i h))
+    (λ _. alike s _ refl refl refl refl refl refl h))
     (λ _. h)
 
 pub buffers-tried_below : (s : State) (p n : ℕ) → HasBuffers s → HasBuffers (tried_below s p n).0
@@ -134,7 +135,8 @@ ready-to s t (Posted i) true e =
     middle-of (has (regs_of s t.0).control enable) (is_timer_free s.queues t) (are_tickets_left s) e
 ready-to s t (Posted i) false e = absurd (cc)
 
-buffers-emitted : (s : State) (t : ℕ × ℕ) (mode : Mode) (d : ℕ) → t.1 < 4 → Names mode → IsAimed mode → (0 < d) × (d ≤ s.moment)
+buffers-emitted : (s : State) (t : ℕ × ℕ) (mode : Mode) (d : ℕ) → t.1 < 4 → Names mode → IsAimed mode
+    → (0 < d) × (d ≤ s.moment)
     → IsReadyTo s t mode → HasBuffers s → HasBuffers (delivery_by s t mode d).0
 buffers-emitted s t (Direct v) d index names aimed past ready h = buffers-requested s t.0 v h
 buffers-emitted s t (Posted i) d index names aimed past ready h =

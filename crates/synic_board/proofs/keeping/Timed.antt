@@ -66,8 +66,8 @@ precedes-joined next None q m is h = tt
 precedes-joined next (Some t) q m is h =
     (omega (arith, h.0), All-push (λ x. t < ticket_of x) q m h.1 (omega (arith, h.0, is)))
 
-pub precedes-push : (next : ℕ) (o : Option ℕ) (q : List Message) (m : Message) → ((t : ℕ) → o ≡ Some t → t < ticket_of m)
-    → Precedes next o q → Precedes next o (q ++ m ∷ [])
+pub precedes-push : (next : ℕ) (o : Option ℕ) (q : List Message) (m : Message)
+    → ((t : ℕ) → o ≡ Some t → t < ticket_of m) → Precedes next o q → Precedes next o (q ++ m ∷ [])
 precedes-push next None q m behind h = tt
 precedes-push next (Some t) q m behind h = (h.0, All-push (λ x. t < ticket_of x) q m h.1 (behind t refl))
 

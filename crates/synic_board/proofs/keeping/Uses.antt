@@ -195,22 +195,23 @@ precedes-part next (Some t) q whole part h = (h.0, part.ahead t h.1)
 pub fewer-queued : (s now : State) (j : ℕ) (q : List Message) → now.queues ≡ set s.queues j q → now.ports ≡ s.ports
     → now.next_ticket ≡ s.next_ticket → now.moment ≡ s.moment → now.timers ≡ s.timers → now.slots ≡ s.slots →
     IsPart q (get_or s.queues j []) → HasBuffers s → HasBuffers now
-fewer-queued s now j q is ports next moment timers slots part h = alike written now is ports next moment timers slots (record {
-  room = λ k. omega (arith, fewer (is_from_port k), h.room k);
-  one_each = λ t. omega (arith, fewer (is_from_timer t), h.one_each t);
-  within = λ k p e. omega (arith, fewer (is_from_port k), h.within k p e);
-  home = each-set (IsHome s.ports) s.queues j q
-      (λ p i below same. part.home s.ports p i
-      (subst (λ k. All (IsHome s.ports p i) (get_or s.queues k [])) same (h.home p i below)))
-      (λ p i below _. h.home p i below);
-  timed = timed-queue s written j q refl refl refl refl refl (part.order s.next_ticket (h.timed.order j))
-      (precedes-part s.next_ticket (get_or s.slots j None) q (get_or s.queues j []) part (h.timed.ahead j))
-      (part.timely s.moment (j % 16) (h.timed.timely j)) h.timed;
-  ports = omega (arith, ap (λ n. most_ports (n / 16)) (length-set s.queues j q), h.ports);
-  few = h.few;
-  shapes = h.shapes;
-  sources = h.sources;
-})
+fewer-queued s now j q is ports next moment timers slots part h =
+    alike written now is ports next moment timers slots (record {
+      room = λ k. omega (arith, fewer (is_from_port k), h.room k);
+      one_each = λ t. omega (arith, fewer (is_from_timer t), h.one_each t);
+      within = λ k p e. omega (arith, fewer (is_from_port k), h.within k p e);
+      home = each-set (IsHome s.ports) s.queues j q
+          (λ p i below same. part.home s.ports p i
+          (subst (λ k. All (IsHome s.ports p i) (get_or s.queues k [])) same (h.home p i below)))
+          (λ p i below _. h.home p i below);
+      timed = timed-queue s written j q refl refl refl refl refl (part.order s.next_ticket (h.timed.order j))
+          (precedes-part s.next_ticket (get_or s.slots j None) q (get_or s.queues j []) part (h.timed.ahead j))
+          (part.timely s.moment (j % 16) (h.timed.timely j)) h.timed;
+      ports = omega (arith, ap (λ n. most_ports (n / 16)) (length-set s.queues j q), h.ports);
+      few = h.few;
+      shapes = h.shapes;
+      sources = h.sources;
+    })
   where
     written : State
     written = record s { queues = set s.queues j q }
