@@ -97,14 +97,16 @@ is-unplaced s t = holds _ and same (times t (locations s)) 0
 
 has-expired : (moment i : ℕ) (m : Message) → Decided (HasExpired moment i m)
 has-expired moment i (FromPort ticket port kind payload) = always
-has-expired moment i (FromTimer ticket timer expiration) = holds _ and holds _
+has-expired moment i (FromTimer ticket timer expiration) = holds _ and holds _ and holds _
 
 may-join : (s : State) (p i : ℕ) (m : Message) → Decided (MayJoin s p i m)
 may-join s p i m = is-message m and is-home (State.ports s) p i m and has-buffer (State.queues s) m and is-within-share s m
-  and is-unplaced s (ticket-of m) and each (λ x → holds (ltb (ticket-of x) (ticket-of m))) (queue-of (State.queues s) p i) and has-expired (State.moment s) i m
+  and is-unplaced s (ticket-of m) and each (λ x → holds (ltb (ticket-of x) (ticket-of m))) (queue-of (State.queues s) p i)
+  and if-some (slot-of s p i) (λ t → holds (ltb t (ticket-of m))) and has-expired (State.moment s) i m
 
 may-occupy : (s : State) (p i t : ℕ) → Decided (MayOccupy s p i t)
-may-occupy s p i t = is (is-slot-empty s p i) false and is-none (slot-of s p i) and is-unplaced s t
+may-occupy s p i t = is (is-slot-empty s p i) false and is-none (slot-of s p i)
+  and each (λ x → holds (ltb t (ticket-of x))) (queue-of (State.queues s) p i) and is-unplaced s t
 
 -- the state to which a piece leads
 
