@@ -61,6 +61,7 @@ pub fn each_state_is_sound()
 
 /// After any events from an opened board, with any number of processors: a reset emits at most 276 notices,
 /// and any other event at most 192.
+#[tactic(auto, using(synic_board::proofs::keeping::Buffers::bound))]
 pub fn each_event_emits_a_bounded_number_of_notices()
     ensures { (processors pages first : ℕ) (events : List Event) (event : Event)
         → length (step (run_of (opened processors pages first) events).0 event).2 ≤ most_notices event }
@@ -175,6 +176,7 @@ pub fn a_queue_keeps_its_order()
 
 /// An event emits FlagSet for a flag iff it is a signal of that flag, was not refused, and found it
 /// clear; and then the flag is set.
+#[tactic(auto, using(crate::proofs::Flagging::emitted_flag, crate::proofs::Flagging::flag_set))]
 pub fn a_flag_notice_means_that_a_signal_set_it()
     ensures emitted { (s : State) (event : Event) (p i flag : ℕ)
         → has_flag_notice p i flag (step s event).2 ≡ found_clear s p i flag event (step s event).1 }
@@ -227,6 +229,7 @@ pub fn no_message_waits_unnoticed_after_eom()
 
 /// What is saved of a board's state leads back to it: the timers of a processor are suspended iff its
 /// local APIC is, so their marks are not saved. No two such states are saved alike.
+#[tactic(auto, using(crate::proofs::Saved::saved_back, crate::proofs::Saved::saved_once))]
 pub fn a_saved_state_is_restored()
     ensures restored { (s : State) → HasShape s → HasPairedTimers s → restored (saved s) ≡ s }
     ensures once { (s t : State) → HasShape s → HasPairedTimers s → HasShape t → HasPairedTimers t → saved s ≡ saved t
