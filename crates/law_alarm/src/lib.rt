@@ -14,12 +14,14 @@ ghost use Rattle.law_alarm.specs.Hosts.{Turn, AreInTime, MissNone};
 ghost use Rattle.law_alarm.specs.Alarm.{late_board, deadline_after, is_alarm_by, may_move, IsQuiet, Wakes, IsFirst};
 
 /// A tick before the alarm changes nothing but the time, and emits no notice.
+#[tactic(auto, using(crate::proofs::Alarms::quiet))]
 pub fn a_tick_before_the_alarm_changes_only_the_time()
     ensures { (s : State) (moment : ℕ) → s.moment < moment → is_alarm_by (alarm s) moment ≡ false
         → IsQuiet s moment }
 {}
 
 /// A tick at the alarm, or later, makes a timer expire or skip: its first notice is of that.
+#[tactic(auto, using(crate::proofs::Alarms::wakes))]
 pub fn a_tick_at_the_alarm_wakes_a_timer()
     ensures { (s : State) (moment : ℕ) → s.moment < moment → is_alarm_by (alarm s) moment ≡ true
         → Wakes s moment }
@@ -35,11 +37,13 @@ pub fn the_alarm_is_the_first_tick_that_wakes_a_timer()
 /// An event that is no tick at or after the alarm, no write of a timer, of SCONTROL or of EOM, no suspension, no
 /// resumption and no reset, leaves the alarm; and so does a post, unless a message of a timer waits in that queue,
 /// or it takes the last ticket.
+#[tactic(auto, using(crate::proofs::Moving::stays))]
 pub fn other_events_leave_the_alarm()
     ensures { (s : State) (event : Event) → may_move s event ≡ false → alarm (step s event).0 ≡ alarm s }
 {}
 
 /// On a clock of 64 bits the alarm below 2^64 serves as well.
+#[tactic(auto, using(crate::proofs::Firsts::words))]
 pub fn the_alarm_of_a_clock_of_64_bits_serves()
     ensures { (s : State) (moment : ℕ) → moment < 2 ^ 64
         → is_alarm_by (alarm_in_word s) moment ≡ is_alarm_by (alarm s) moment }
@@ -63,6 +67,7 @@ pub fn the_earliest_timer_has_the_alarm_if_it_is_ready()
 
 /// The next deadline after the present hides a timer that is late: here the next tick wakes it, and no deadline is
 /// later than the present.
+#[tactic(auto, using(crate::proofs::LateTimer::hidden))]
 pub fn the_next_deadline_hides_a_late_timer()
     ensures { (alarm late_board ≡ Some 651) × (deadline_after late_board ≡ None) }
 {}

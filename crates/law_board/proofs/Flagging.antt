@@ -233,11 +233,11 @@ flags = throughout IsMute IsFlagged mute (record {
       other s (Reset p) _ (after e (cleared e.0 p, [])) tt (none-joined e.1 [] h.none (λ _ _ _. refl));
 })
 
-pub emitted-flag : (s : State) (event : Event) (p i flag : ℕ)
+pub emitted_flag : (s : State) (event : Event) (p i flag : ℕ)
     → has_flag_notice p i flag (step s event).2 ≡ found_clear s p i flag event (step s event).1
-emitted-flag s event = (flags s event).emitted
+emitted_flag s event = (flags s event).emitted
 
-pub flag-set : (s : State) (event : Event) (p i flag : ℕ) → IsSound s → p < processors s → i < 16 → flag < 2048
+pub flag_set : (s : State) (event : Event) (p i flag : ℕ) → IsSound s → p < processors s → i < 16 → flag < 2048
     → has_flag_notice p i flag (step s event).2 ≡ true →
     is_flag_set (space_of (step s event).0) p i flag ≡ true
-flag-set s event = (flags s event).stands
+flag_set s event = (flags s event).stands

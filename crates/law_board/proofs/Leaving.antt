@@ -132,10 +132,10 @@ leaves-summary s address bytes =
     let first = leaves-summary-there s (address / 4096) new (visible (space_of s) (address / 4096)) in
     record { summary = like.summary ∙ first.summary; ticket = like.ticket ∙ first.ticket })
 
-pub leaves-hidden : (s : State) (address : ℕ) (bytes : ArrayVec ℕ)
+pub leaves_hidden : (s : State) (address : ℕ) (bytes : ArrayVec ℕ)
     → LeavesHidden s (step s (Store address bytes)).0 (address / 4096)
 unfolding step
-leaves-hidden s address bytes =
+leaves_hidden s address bytes =
     stored (λ now. LeavesHidden s now (address / 4096)) s address bytes.items
     (record { overlays = λ k other. refl; guest = λ other which. refl }) (λ now new like.
     let first = leaves-hidden-there s (address / 4096) new (visible (space_of s) (address / 4096)) refl in

@@ -217,16 +217,16 @@ event-counted t =
     })
 
 -- and all of them
-pub bound-expiries : (s : State) (t : ℕ × ℕ) (events : List Event) → IsOneShot s t
+pub bound_expiries : (s : State) (t : ℕ × ℕ) (events : List Event) → IsOneShot s t
     → All (λ event. makes_periodic t event ≡ false) events
     → expiries t (run_of s events).2 + armed (run_of s events).0 t ≤ armed s t + writes t events
 unfolding run_of
-bound-expiries s t [] o quiet = omega arith
-bound-expiries s t (event ∷ events) o quiet =
+bound_expiries s t [] o quiet = omega arith
+bound_expiries s t (event ∷ events) o quiet =
     let now : State = (step s event).0 in
     let first = event-counted t s event in
     let calm : makes_periodic t event ≡ false = All-head (λ event. makes_periodic t event ≡ false) event events quiet in
-    let rest = bound-expiries now t events (first.one_shot calm o)
+    let rest = bound_expiries now t events (first.one_shot calm o)
     (All-tail (λ event. makes_periodic t event ≡ false) event events quiet) in
     omega (
       arith,

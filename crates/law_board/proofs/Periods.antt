@@ -151,16 +151,16 @@ event-goes t =
     })
 
 -- and all of them
-pub goes-on : (s : State) (t : ℕ × ℕ) (due : ℕ) (events : List Event) → IsPeriodic (timer_in (bank_of s) t) due
+pub goes_on : (s : State) (t : ℕ × ℕ) (due : ℕ) (events : List Event) → IsPeriodic (timer_in (bank_of s) t) due
     → All (λ event. sets_timer t event ≡ false) events
     → timer_in (bank_of (run_of s events).0) t
     ≡ after_periods (timer_in (bank_of s) t) due (expiries t (run_of s events).2 + skips t (run_of s events).2)
 unfolding run_of
-goes-on s t due [] h quiet = goes-nowhere t s (s, []) refl refl refl due h
-goes-on s t due (event ∷ events) h quiet =
+goes_on s t due [] h quiet = goes-nowhere t s (s, []) refl refl refl due h
+goes_on s t due (event ∷ events) h quiet =
     let now : State = (step s event).0 in
     let calm : sets_timer t event ≡ false = All-head (λ event. sets_timer t event ≡ false) event events quiet in
     let rest : All (λ event. sets_timer t event ≡ false) events =
     All-tail (λ event. sets_timer t event ≡ false) event events quiet in
     goes-after t s (now, (step s event).2) ((run_of now events).0, (run_of now events).2) (event-goes t s event calm)
-    (λ moment g. goes-on now t moment events g rest) due h
+    (λ moment g. goes_on now t moment events g rest) due h

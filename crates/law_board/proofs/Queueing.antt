@@ -305,11 +305,11 @@ in-order p i s event = (throughout (Ordered p i) (IsOrdered p i) (ordered p i) (
       record { keeps = joined p i s e (cleared e.0 q, []) h (mute p i e.0 (cleared e.0 q, []) refl refl refl) };
 }) s event).keeps
 
-pub all-in-order : (s : State) (events : List Event) (p i : ℕ)
+pub all_in_order : (s : State) (events : List Event) (p i : ℕ)
     → KeepsOrder p i s (run_of s events).0 (run_of s events).2
 unfolding run_of
-all-in-order s [] p i = mute p i s (nothing s) refl refl refl
-all-in-order s (event ∷ events) p i =
+all_in_order s [] p i = mute p i s (nothing s) refl refl refl
+all_in_order s (event ∷ events) p i =
     let first : Effect = ((step s event).0, (step s event).2) in
     let rest : Effect = ((run_of first.0 events).0, (run_of first.0 events).2) in
-    joined p i s first rest (in-order p i s event) (all-in-order first.0 events p i)
+    joined p i s first rest (in-order p i s event) (all_in_order first.0 events p i)

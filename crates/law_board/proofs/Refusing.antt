@@ -40,14 +40,14 @@ quiet = throughout Any IsQuiet any (record {
   resets = λ s p _ _. acts s _ _ (λ never. never);
 })
 
-pub no-trace : (s : State) (event : Event) → IsRefusal (step s event).1 → LeavesNoTrace s event
-no-trace s event refuses = let kept = (quiet s event).kept refuses in record { state = kept.0; notices = kept.1 }
+pub no_trace : (s : State) (event : Event) → IsRefusal (step s event).1 → LeavesNoTrace s event
+no_trace s event refuses = let kept = (quiet s event).kept refuses in record { state = kept.0; notices = kept.1 }
 
 pub alike : (s : State) (before : List Event) (event : Event) (behind : List Event)
     → IsRefusal (step (run_of s before).0 event).1 → AnswersAlike s before event behind
 unfolding run_of
 alike s [] event behind refuses =
-    let none = no-trace s event refuses in
+    let none = no_trace s event refuses in
     record {
       state = ap (λ (t : State). (run_of t behind).0) none.state;
       replies = ap (λ (t : State). (step s event).1 ∷ (run_of t behind).1) none.state;

@@ -72,8 +72,8 @@ fits-load s address count = long (nat_lt 8 count) refl
         by false other e = cc
     long false is = answered (refusal_of (space_of s) address count) (ltb-false 8 count is)
 
-pub step-fits : (s : State) (event : Event) → IsReply (step s event).1
-step-fits s event = (throughout Any Fits any (record {
+pub step_fits : (s : State) (event : Event) → IsReply (step s event).1
+step_fits s event = (throughout Any Fits any (record {
   refuses = λ s event r. record { reply = tt };
   faults = λ s event. record { reply = tt };
   reads = λ s p number. record { reply = fits-read s p number };

@@ -269,9 +269,9 @@ steps s event = throughout Tells NotifiesRequests emitted (record {
   resets = λ s p _ h. resets s p h;
 }) s event
 
-pub emitted-of : (s : State) (event : Event) (p v : ℕ) → p < processors s
+pub emitted_of : (s : State) (event : Event) (p v : ℕ) → p < processors s
     → has_request_notice p v (step s event).2 ≡ (not (is_requested s p v) && is_requested (step s event).0 p v)
-emitted-of s event = (steps s event).emitted
+emitted_of s event = (steps s event).emitted
 
 or-first : (a b : Bool) → a ≡ true → (a || b) ≡ true
 or-first true b h = refl
@@ -300,7 +300,7 @@ emitted-over s (event ∷ events) p v on clear stands = emitted-joined p v (step
         (has_request_notice p v (step s event).2 || has_request_notice p v (run_of now events).2) ≡ true
     by true e rest =
         or-first (has_request_notice p v (step s event).2) (has_request_notice p v (run_of now events).2)
-        (emitted-of s event p v on ∙ ap (λ b. not b && is_requested now p v) clear ∙ e)
+        (emitted_of s event p v on ∙ ap (λ b. not b && is_requested now p v) clear ∙ e)
     by false e rest =
         or-second (has_request_notice p v (step s event).2) (has_request_notice p v (run_of now events).2)
         (rest e stands)
@@ -355,10 +355,10 @@ taken-clear s p v on is =
     ∙ ap (λ (a : Apic). set.contains a.requested v) (get_or-set_same s.apics p apic empty_apic on)
     ∙ grind (arith, nat_tests)
 
-pub emitted-between : (s : State) (events : List Event) (p v : ℕ) → Takes s p v
+pub emitted_between : (s : State) (events : List Event) (p v : ℕ) → Takes s p v
     → Takes (run_of (step s (Take p)).0 events).0 p v
     → has_request_notice p v (run_of (step s (Take p)).0 events).2 ≡ true
-emitted-between s events p v first second =
+emitted_between s events p v first second =
     let now : State = (step s (Take p)).0 in
     let taken_first = taken-next s p v first in
     let taken_second = taken-next (run_of now events).0 p v second in

@@ -49,7 +49,7 @@ accounts n pages first es fit =
       account = λ t. omega (arith, conserves t, no-locations n pages first t);
     }
 
-pub one-suspension : (n pages first : ℕ) (es : List Event) → n ≤ 64
+pub one_suspension : (n pages first : ℕ) (es : List Event) → n ≤ 64
     → HasOneSuspension (run_of (opened n pages first) es).0
-one-suspension n pages first es bound =
+one_suspension n pages first es bound =
     (settled-run (opened n pages first) es (settled-opened n pages first bound)).suspended

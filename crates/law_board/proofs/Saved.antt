@@ -109,8 +109,8 @@ marks-back s h = ext_get_or false (map mark s.apics) s.suspended (length-map s.a
     mark : Apic → Bool
     mark a = a.suspended
 
-pub saved-back : (s : State) → HasShape s → HasPairedTimers s → restored (saved s) ≡ s
-saved-back s h settled =
+pub saved_back : (s : State) → HasShape s → HasPairedTimers s → restored (saved s) ≡ s
+saved_back s h settled =
     let pages = back is_zero_page zero_page (λ page. length page ≡ 4096) known-page s.pages
     (length s.pages) refl h.pages in
     let own = back is_zero_page zero_page (λ page. length page ≡ 4096) known-page s.own
@@ -135,9 +135,9 @@ saved-back s h settled =
       suspended = suspended i;
     })
 
-pub saved-once : (s t : State) → HasShape s → HasPairedTimers s → HasShape t → HasPairedTimers t → saved s ≡ saved t
+pub saved_once : (s t : State) → HasShape s → HasPairedTimers s → HasShape t → HasPairedTimers t → saved s ≡ saved t
     → s ≡ t
-saved-once s t h settled k also e = sym (saved-back s h settled) ∙ ap restored e ∙ saved-back t k also
+saved_once s t h settled k also e = sym (saved_back s h settled) ∙ ap restored e ∙ saved_back t k also
 
 -- an element that is put after all that were changed is changed last
 none-changed : {A : Type 0} (is_first : A → Bool) (first : A) (xs : List A) (k : ℕ)

@@ -248,10 +248,10 @@ seen-below n s p (suc k) h below bound on =
         (alike-tried n (tried_below s p k).0 p k i intact below (omega (arith, bound))
         (omega (arith, bound, less)) ne) (first.each i (omega (arith, less, ne)))
 
-pub seen-behind : (s : State) (p i value : ℕ) → IsSound s → p < processors s → i < 16 → delivers s p ≡ true
+pub seen_behind : (s : State) (p i value : ℕ) → IsSound s → p < processors s → i < 16 → delivers s p ≡ true
     → IsSeen (step s (Write p (number_of_register Eom) value)).0 p i
 unfolding step
-seen-behind s p i value sound below under on =
+seen_behind s p i value sound below under on =
     either (λ (o : Outcome). IsSeen o.0 p i) (nat_lt p (processors s)) _ _
     (λ _. (seen-below (processors s) s p 16 (kept_from_sound s sound) below (omega arith) on).each i under)
     (λ away. absurd (grind (arith, nat_tests, away, below)))

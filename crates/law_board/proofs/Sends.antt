@@ -77,9 +77,9 @@ on-board s mask p fits set = by (cases_lt p (processors s))
     by (inl below) = below
     by (inr above) = let clear = bit_at_above mask (processors s) p fits above in absurd (omega (arith, set, clear))
 
-pub sends-alike : (s : State) (v mask : ℕ) → mask < 2 ^ processors s → SendsAlike s v mask (asserts_below v mask 64)
+pub sends_alike : (s : State) (v mask : ℕ) → mask < 2 ^ processors s → SendsAlike s v mask (asserts_below v mask 64)
 unfolding step
-sends-alike s v mask fits =
+sends_alike s v mask fits =
     let is : nat_lt mask (2 ^ processors s) ≡ true = grind (arith, nat_tests) in
     let all = each s v mask 64 (λ p set. on-board s mask p fits set) in
     record {

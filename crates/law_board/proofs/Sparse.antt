@@ -480,12 +480,12 @@ empty-stays s (Store address bytes) =
 empty-stays s (Load address count) = refl
 empty-stays s e = ap (λ (o : Outcome). o.0.pages) (blind-step e refl (holding s []) [])
 
-pub stays-sparse : (s : State) (e : Event) → s.pages ≡ [] → (step s e).0.pages ≡ []
-stays-sparse s e none = (λ i. (step (record s { pages = none i }) e).0.pages) ∙ empty-stays s e
+pub stays_sparse : (s : State) (e : Event) → s.pages ≡ [] → (step s e).0.pages ≡ []
+stays_sparse s e none = (λ i. (step (record s { pages = none i }) e).0.pages) ∙ empty-stays s e
 
-pub step-completed : (s : State) (m : Memory) (e : Event) → s.pages ≡ [] → AreAllPages m
+pub step_completed : (s : State) (m : Memory) (e : Event) → s.pages ≡ [] → AreAllPages m
     → step (holding s m) e ≡ completed m e (step s e)
-step-completed s m e none all =
+step_completed s m e none all =
     empty-completed s m e all ∙ (λ i. completed m e (step (record s { pages = sym none i }) e))
 
 -- what is completed is the state of the sparse board, with all pages
@@ -504,12 +504,12 @@ still-all m (Load address count) o all =
     either (λ (x : Outcome). AreAllPages x.0.pages) (is_callers_access o.1) _ _ (λ _. all) (λ _. all)
 still-all m e o all = all
 
-pub run-completed : (s : State) (m : Memory) (es : List Event) → s.pages ≡ [] → AreAllPages m
+pub run_completed : (s : State) (m : Memory) (es : List Event) → s.pages ≡ [] → AreAllPages m
     → run_of (holding s m) es ≡ completed_run s m es
 unfolding run_of completed_run
-run-completed s m [] none all = refl
-run-completed s m (e ∷ es) none all =
+run_completed s m [] none all = refl
+run_completed s m (e ∷ es) none all =
     let o = completed m e (step s e) in
-    ap (λ (x : Outcome). followed_by x (run_of x.0 es)) (step-completed s m e none all)
+    ap (λ (x : Outcome). followed_by x (run_of x.0 es)) (step_completed s m e none all)
     ∙ ap (followed_by o) (ap (λ x. run_of x es) (splits m e (step s e))
-    ∙ run-completed (step s e).0 o.0.pages es (stays-sparse s e none) (still-all m e (step s e) all))
+    ∙ run_completed (step s e).0 o.0.pages es (stays_sparse s e none) (still-all m e (step s e) all))

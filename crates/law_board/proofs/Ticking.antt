@@ -55,8 +55,8 @@ each-tried (suc n) s (t ∷ ts) h =
     enough true = omega (arith, h)
     enough false = omega (arith, h)
 
-pub ticks-all : (s : State) (moment : ℕ) → length s.timers ≤ 32 → ticked s moment ≡ ticked_all s moment
-ticks-all s moment few =
+pub ticks_all : (s : State) (moment : ℕ) → length s.timers ≤ 32 → ticked s moment ≡ ticked_all s moment
+ticks_all s moment few =
     let ts : List (ℕ × ℕ) = due_list (dues (bank_of s)) moment in
     let enough : length ts ≤ most_expiries =
     omega (arith, few, list-bound (dues (bank_of s)) moment, length-dues (bank_of s)) in

@@ -126,8 +126,8 @@ tells : (s now : State) (event : Event) (reply : Reply) (e : Effect) → Timely 
     → IsOnTime s event (answered reply e)
 tells s now event reply e h = record { emitted = subst (λ m. AreTimely m e.1) (sym h.same) h.emitted }
 
-pub on-time : (s : State) (event : Event) → AreTimely (step s event).0.moment (step s event).2
-on-time s event = (throughout Timely IsOnTime timely (record {
+pub on_time : (s : State) (event : Event) → AreTimely (step s event).0.moment (step s event).2
+on_time s event = (throughout Timely IsOnTime timely (record {
   refuses = λ s event r. silent s s event _;
   faults = λ s event. silent s s event _;
   reads = λ s p number. silent s s _ _;

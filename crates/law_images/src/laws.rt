@@ -19,6 +19,7 @@ pub fn an_image_has_one_state()
 
 /// The image of the state of a board is an image of this state. So `restore` accepts what is saved of
 /// a board, and leads back to its state. `a_board_is_restored_from_its_image` says so of every board.
+#[tactic(auto, using(crate::proofs::Accepted::accepted))]
 pub fn an_image_restores_its_board()
     ensures { (s : State) → IsBoardState s → IsImage (image s) s }
 {}

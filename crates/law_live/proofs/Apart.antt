@@ -399,6 +399,6 @@ runs-alone (c ∷ calls) q old now sound size on (mid, acts, fits, none, rest) =
     (runs-alone calls q mid now next.0 (subst (λ l. 2 * q + 1 < l) (sym first.count) size)
     (subst (λ n. q < n) (sym next.1) on) rest)
 
-pub runs-leave-alone : RunsLeaveAlone
-runs-leave-alone q old now calls ready apart =
+pub runs_leave_alone : RunsLeaveAlone
+runs_leave_alone q old now calls ready apart =
     runs-alone calls q old now ready.sound (page-count q old ready) ready.on apart

@@ -25,7 +25,7 @@ use Rattle.live_board.proofs.Joined.{rest-number, rest-shown}
 use Rattle.live_board.proofs.TimedPart.{timer-grows, shown-same}
 use Rattle.law_processors.specs.Isolation.{Keeps, Untouched, processor_of, touches}
 use Rattle.law_processors.proofs.Isolated.{keeps-itself, keeps-then}
-use Rattle.law_processors.proofs.Isolating.{leaves-alone, runs-alone}
+use Rattle.law_processors.proofs.Isolating.{leaves-alone, runs_alone}
 use Rattle.law_live.specs.Alone.{IsLeftAlone}
 use Rattle.law_live.proofs.Stores.{IsOfPage, untouched-append, none-touched, looked-elsewhere, marked-elsewhere, shows-none, page-within, not-same}
 
@@ -36,7 +36,7 @@ pub alone-run : (q : ℕ) (old now : LiveModel) (es : List Event) (replies : Lis
     → ((kind : Kind) → log_of now q kind ≡ log_of old q kind) → length now.pages ≡ length old.pages
     → IsLeftAlone q old now notices
 alone-run q old now es replies notices sound fits apart is pages count =
-    let h = runs-alone old.board.state es q fits sound apart in
+    let h = runs_alone old.board.state es q fits sound apart in
     record {
       state = subst (λ (r : Run). Keeps q old.board.state r.0) is h.state;
       silent = subst (λ (r : Run). All (λ notice. processor_of notice ≢ q) r.2) is h.notices;

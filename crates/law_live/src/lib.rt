@@ -13,6 +13,7 @@ pub fn a_call_leaves_alone_what_it_may_not_touch()
 {}
 
 /// The same for calls one after another.
+#[tactic(auto, using(crate::proofs::Apart::runs_leave_alone))]
 pub fn calls_leave_alone_what_they_may_not_touch()
     ensures { RunsLeaveAlone }
 {}

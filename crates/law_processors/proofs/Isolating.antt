@@ -480,8 +480,8 @@ alone-run n q s (e ∷ es) fit h untouched =
     (alone-run n q now es (All-tail PayloadFits e es fit) (keeps-step n s e (All-head PayloadFits e es fit) h).kept
     untouched.1)
 
-pub runs-alone : (s : State) (events : List Event) (q : ℕ) → All PayloadFits events → IsSound s
+pub runs_alone : (s : State) (events : List Event) (q : ℕ) → All PayloadFits events → IsSound s
     → Untouched s events q → RunsAlone s events q
-runs-alone s events q fit sound untouched =
+runs_alone s events q fit sound untouched =
     let h = alone-run (processors s) q s events fit (kept_from_sound s sound) untouched in
     record { state = h.0; notices = h.1 }

@@ -290,13 +290,13 @@ taken-once s p outside vectors part = by (cases_lt p (length s.apics))
         (set-set s.apics p b _ ∙ set_past s.apics p _ past ∙ sym (set_past s.apics p _ past))
 
 -- a whole run
-pub whole-run : (s : State) (p : ℕ) (outside : Vectors) (turns : List Turn) → AreTurns s p turns
+pub whole_run : (s : State) (p : ℕ) (outside : Vectors) (turns : List Turn) → AreTurns s p turns
     → with_requests (taken_over s p outside turns).0 p (taken_over s p outside turns).1
     ≡ (run_of (with_requests s p outside) (map (λ (turn : Turn). turn.0) turns)).0
 unfolding taken_over AreTurns run_of
-whole-run s p outside [] h = refl
-whole-run s p outside (turn ∷ turns) h =
+whole_run s p outside [] h = refl
+whole_run s p outside (turn ∷ turns) h =
     let now : State = (step s turn.0).0 in
-    whole-run (without_requests now p turn.1) p (finset.union outside turn.1) turns h.2
+    whole_run (without_requests now p turn.1) p (finset.union outside turn.1) turns h.2
     ∙ ap (λ (x : State). (run_of x (map (λ (t : Turn). t.0) turns)).0)
     (taken-once now p outside turn.1 h.1 ∙ sym (after-event p outside s turn.0 h.0))

@@ -442,14 +442,14 @@ from-aside s event is e =
       overlays = λ _. seen s (step s event).0 (ap (λ (x : Aside). overlay_registers x.3) e);
     }
 
-pub keeps-shared-parts : (s : State) (event : Event) → KeepsShared s event
+pub keeps_shared_parts : (s : State) (event : Event) → KeepsShared s event
 unfolding step
-keeps-shared-parts s (OpenPort port p i shape) =
+keeps_shared_parts s (OpenPort port p i shape) =
     let now : State = with_port s port (record { vp = p; sint = i; shape = shape }) in
     from-aside s (OpenPort port p i shape) refl
     (unless aside s (open_refusal (ports_of s) port p i shape) (unchanged now replies.Done) refl)
-keeps-shared-parts s (ClosePort port) = from-aside s (ClosePort port) refl (aside-closed s port)
-keeps-shared-parts s (Write p number value) =
+keeps_shared_parts s (ClosePort port) = from-aside s (ClosePort port) refl (aside-closed s port)
+keeps_shared_parts s (Write p number value) =
     let e = at few_of s p (written s p number value) (near-written s p number value) in
     record {
       moment = λ _. ap (λ (x : Few). x.0) e;
@@ -460,15 +460,15 @@ keeps-shared-parts s (Write p number value) =
       overlays = λ never. seen s (step s (Write p number value)).0
           (at places s p (written s p number value) (places-written s p number value never));
     }
-keeps-shared-parts s (Read p number) = from-all s (Read p number) (at all s p _ refl)
-keeps-shared-parts s (Post port kind payload) =
+keeps_shared_parts s (Read p number) = from-all s (Read p number) (at all s p _ refl)
+keeps_shared_parts s (Post port kind payload) =
     from-most s (Post port kind payload) (λ never. absurd (cc)) (near-posted s port kind payload)
-keeps-shared-parts s (Signal port flag) = from-all s (Signal port flag) (same-signalled s port flag)
-keeps-shared-parts s (Assert p v) =
+keeps_shared_parts s (Signal port flag) = from-all s (Signal port flag) (same-signalled s port flag)
+keeps_shared_parts s (Assert p v) =
     from-all s (Assert p v) (at all s p (answered replies.Done (requested s p v)) (same-requested s p v))
-keeps-shared-parts s (Absorb p part bits) =
+keeps_shared_parts s (Absorb p part bits) =
     from-all s (Absorb p part bits) (at all s p (absorbed s p part bits) (same-absorbed s p part bits))
-keeps-shared-parts s (Store address bytes) =
+keeps_shared_parts s (Store address bytes) =
     let e = fixed-stored s address bytes.items in
     record {
       moment = λ _. ap (λ (x : Fixed). x.0) e;
@@ -477,8 +477,8 @@ keeps-shared-parts s (Store address bytes) =
       pages = λ never. absurd (cc);
       overlays = λ _. seen s (step s (Store address bytes)).0 (ap (λ (x : Fixed). overlay_registers x.3) e);
     }
-keeps-shared-parts s (Load address count) = from-all s (Load address count) refl
-keeps-shared-parts s (Tick moment) =
+keeps_shared_parts s (Load address count) = from-all s (Load address count) refl
+keeps_shared_parts s (Tick moment) =
     let e = ticks s moment in
     record {
       moment = λ never. absurd (cc);
@@ -487,10 +487,10 @@ keeps-shared-parts s (Tick moment) =
       pages = λ _. ap (λ (x : Placed). x.1) e;
       overlays = λ _. seen s (step s (Tick moment)).0 (ap (λ (x : Placed). overlay_registers x.2) e);
     }
-keeps-shared-parts s (Take p) = from-all s (Take p) (at all s p (taken s p) (same-taken s p))
-keeps-shared-parts s (Suspend p) = from-all s (Suspend p) (at all s p (suspended s p) (same-suspended s p))
-keeps-shared-parts s (Resume p) = from-all s (Resume p) (at all s p (resumed s p) (same-resumed s p))
-keeps-shared-parts s (Reset p) =
+keeps_shared_parts s (Take p) = from-all s (Take p) (at all s p (taken s p) (same-taken s p))
+keeps_shared_parts s (Suspend p) = from-all s (Suspend p) (at all s p (suspended s p) (same-suspended s p))
+keeps_shared_parts s (Resume p) = from-all s (Resume p) (at all s p (resumed s p) (same-resumed s p))
+keeps_shared_parts s (Reset p) =
     let e = at apart s p (reset s p) (ap front (same-emptied_below s p 16)) in
     record {
       moment = λ _. ap (λ (x : Apart). x.0) e;
@@ -499,13 +499,13 @@ keeps-shared-parts s (Reset p) =
       pages = λ _. ap (λ (x : Apart). x.3) e;
       overlays = λ never. absurd (cc);
     }
-keeps-shared-parts s (Send v mask) = from-all s (Send v mask) (same-sent s v mask)
+keeps_shared_parts s (Send v mask) = from-all s (Send v mask) (same-sent s v mask)
 
 -- a store where no overlay is visible
-pub stores-alone : (s : State) (address : ℕ) (bytes : ArrayVec ℕ) → NoneIsVisible s address
+pub stores_alone : (s : State) (address : ℕ) (bytes : ArrayVec ℕ) → NoneIsVisible s address
     → StoresAlone s address bytes
 unfolding step
-stores-alone s address bytes none =
+stores_alone s address bytes none =
     let h = by (refusal_of (space_of s) address (length bytes.items)) refl in record { rest = h.0; notices = h.1 }
   where
     page : ℕ

@@ -135,8 +135,8 @@ none-left : (o : Option ℕ) (a b : ℕ) → IfSome o (λ _. a ≤ b) → b < a 
 none-left None a b p l = refl
 none-left (Some n) a b p l = absurd (omega arith)
 
-pub each-message-leaves : EachMessageLeaves
-each-message-leaves earlier later n m l more many =
+pub each_message_leaves : EachMessageLeaves
+each_message_leaves earlier later n m l more many =
     let s = led_to careful start earlier in
     let most = r.most (is_occupied s.header) s.buffered s.host s.guest s.owed in
     none-left (ahead later (Some n)) (rounds later) (rank-of s + 10 * n)
@@ -179,26 +179,26 @@ withdrawn : (o : Option ℕ) (k n v : ℕ) (now placed : List ℕ) → MatchOpti
 withdrawn None k n v now placed p = inr (inl (ap withdraws p))
 withdrawn (Some j) k n v now placed p = p
 
-pub a-message-is-followed : AMessageIsFollowed
-a-message-is-followed c s n (posts t) m l = in-longer s.queue (t ∷ []) n l
-a-message-is-followed c s n (ticks t ts) m l = in-longer s.queue (t ∷ ts) n l
-a-message-is-followed c s n looks m l = refl
-a-message-is-followed c s n marks m l = refl
-a-message-is-followed c s n copies m l = refl
-a-message-is-followed c s zero (fills w) m l = inl (first-at s.queue s.placed l)
-a-message-is-followed c s (suc n) (fills w) m l = in-rest s.queue n l
-a-message-is-followed c s n (withdraws k) m l =
+pub a_message_is_followed : AMessageIsFollowed
+a_message_is_followed c s n (posts t) m l = in-longer s.queue (t ∷ []) n l
+a_message_is_followed c s n (ticks t ts) m l = in-longer s.queue (t ∷ ts) n l
+a_message_is_followed c s n looks m l = refl
+a_message_is_followed c s n marks m l = refl
+a_message_is_followed c s n copies m l = refl
+a_message_is_followed c s zero (fills w) m l = inl (first-at s.queue s.placed l)
+a_message_is_followed c s (suc n) (fills w) m l = in-rest s.queue n l
+a_message_is_followed c s n (withdraws k) m l =
     withdrawn (after_kth k n) k n (slice_index_or s.queue n 0) (without k s.queue) s.placed (stays k n s.queue l)
-a-message-is-followed c s n observes m l = refl
-a-message-is-followed c s n resets m l = inr (inr refl)
-a-message-is-followed c s n takes m l = refl
-a-message-is-followed c s n clears m l = refl
-a-message-is-followed c s n drains m l = refl
-a-message-is-followed c s n fences m l = refl
-a-message-is-followed c s n sees m l = refl
-a-message-is-followed c s n ends m l = refl
-a-message-is-followed c s n asks m l = refl
-a-message-is-followed c s n pays m l = refl
+a_message_is_followed c s n observes m l = refl
+a_message_is_followed c s n resets m l = inr (inr refl)
+a_message_is_followed c s n takes m l = refl
+a_message_is_followed c s n clears m l = refl
+a_message_is_followed c s n drains m l = refl
+a_message_is_followed c s n fences m l = refl
+a_message_is_followed c s n sees m l = refl
+a_message_is_followed c s n ends m l = refl
+a_message_is_followed c s n asks m l = refl
+a_message_is_followed c s n pays m l = refl
 
 -- a message that leaves the queue of a calm run is placed
 self-in : (t : ℕ) (us : List ℕ) → is_in t (t ∷ us) ≡ true
@@ -269,12 +269,12 @@ placed-by (x ∷ xs) s (Some n) t h e m calm gone =
     let both_calm = both (is_calm x) (are_calm xs) calm in
     placed-by xs (after careful s x) (ahead_after x n) t
     (here-after (ahead_after x n) s (after careful s x) x n t 0 both_calm.0 h.1
-    (a-message-is-followed careful s n x parts.0 h.0)
+    (a_message_is_followed careful s n x parts.0 h.0)
     (IfSome_then (ahead_after x n) (counted s x n e parts.0 h.0) (λ k p. p.0)))
     (preserved s x e parts.0) parts.1 both_calm.1 gone
 
-pub each-message-is-placed : EachMessageIsPlaced
-each-message-is-placed earlier later n m l more calm many =
+pub each_message_is_placed : EachMessageIsPlaced
+each_message_is_placed earlier later n m l more calm many =
     placed-by later (led_to careful start earlier) (Some n)
     (slice_index_or (led_to careful start earlier).queue n 0) (l, refl) (kept-in-a-run earlier m) more calm
-    (each-message-leaves earlier later n m l more many)
+    (each_message_leaves earlier later n m l more many)

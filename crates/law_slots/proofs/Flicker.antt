@@ -30,5 +30,5 @@ may = (
   ),
 )
 
-pub a-flicker-is-missed : AFlickerIsMissed
-a-flicker-is-missed = record { may = may; waits = refl; missed = refl }
+pub a_flicker_is_missed : AFlickerIsMissed
+a_flicker_is_missed = record { may = may; waits = refl; missed = refl }

@@ -248,8 +248,8 @@ pub kept-acts : (acts : List Act) (x : ℕ) (r : Run) → AreActs x r acts → K
 kept-acts [] x r m k = k
 kept-acts (a ∷ acts) x r m k = kept-acts acts x (acted x r a) m.1 (kept-act x r a m.0 k)
 
-pub no-message-waits-unseen : NoMessageWaitsUnseenInMemory
-no-message-waits-unseen x acts m waits =
+pub no_message_waits_unseen : NoMessageWaitsUnseenInMemory
+no_message_waits_unseen x acts m waits =
     let r = acted_by x opened acts in
     let k = kept-acts acts x opened m (record { fit = refl; wants = λ w. absurd (cc) }) in
     v.owed (is_occupied (in-memory x r.page)) (is_pending (in-memory x r.page)) r.page.buffered

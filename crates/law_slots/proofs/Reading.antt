@@ -120,8 +120,8 @@ all-same (m ∷ ms) x s f at may =
     (one-same x s m f at may.0)
     (all-same ms x (moved x s m) (fit-move x s m one.0 f) (one.1 ∙ at) may.1)
 
-pub no-message-is-torn : NoMessageIsTorn
-no-message-is-torn x acts ends moves meanwhile run begins during reads may =
+pub no_message_is_torn : NoMessageIsTorn
+no_message_is_torn x acts ends moves meanwhile run begins during reads may =
     let kept = kept-acts acts x opened run (record { fit = refl; wants = λ w. absurd (cc) }) in
     let entry = fit-entered x (acted_by x opened acts).page ends begins kept.fit in
     all-same meanwhile x (amid x acts ends moves)

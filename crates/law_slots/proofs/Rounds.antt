@@ -223,15 +223,15 @@ acts-count (calls c ∷ acts) x run m k p =
 first : (x : ℕ) → Kept x opened
 first x = record { fit = refl; wants = λ w. absurd (cc) }
 
-pub a-few-rounds-place : AFewRoundsPlace
-a-few-rounds-place x earlier later m more patient =
+pub a_few_rounds_place : AFewRoundsPlace
+a_few_rounds_place x earlier later m more patient =
     let run = acted_by x opened earlier in
     let some = acts-count later x run more (kept-acts earlier x opened m (first x)) patient in
     let all = most (is_occupied (in-memory x run.page)) run.page.buffered run.page.guest in
     omega arith
 
-pub an-eom-fills : AnEomFills
-an-eom-fills x earlier c m more empty left = by (are_mild x c.moves) refl
+pub an_eom_fills : AnEomFills
+an_eom_fills x earlier c m more empty left = by (are_mild x c.moves) refl
   where
     run : Run
     run = acted_by x opened earlier

@@ -90,8 +90,8 @@ pub kept-in-a-run : (steps : List Step) → are_steps careful start steps ≡ tr
     → is-kept (led_to careful start steps) ≡ true
 kept-in-a-run steps m = always start steps refl m
 
-pub no-message-waits-unseen : NoMessageWaitsUnseen
-no-message-waits-unseen steps m =
+pub no_message_waits_unseen : NoMessageWaitsUnseen
+no_message_waits_unseen steps m =
     let s = led_to careful start steps in
     k.seen (is_occupied s.header) (is_pending s.header) s.buffered (is_any s.queue) s.host s.guest s.owed
     (kept-in-a-run steps m)
@@ -130,8 +130,8 @@ either : (s : Slot) → (host_is s.host idle ≡ true → can_go_on careful s �
 either s g (inl i) = inl (i, g i)
 either s g (inr a) = inr a
 
-pub never-stuck : AQueueIsNeverStuck
-never-stuck steps m some =
+pub never_stuck : AQueueIsNeverStuck
+never_stuck steps m some =
     let s = led_to careful start steps in
     either s
     (λ i. k.goes-on (is_occupied s.header) (is_pending s.header) s.buffered (is_any s.queue) s.host s.guest s.owed

@@ -32,7 +32,7 @@ use Rattle.text_history.specs.declared.format.Format.TheVariants.{One, Two, Thre
 use Rattle.text_history.specs.Trace.{IsEntry, title_fields, entry_fields, end_fields, history_lines, trace, board_text, may_open, may_restore, IsOpening, IsBeginning, IsTrace}
 use Rattle.text_trace.specs.inside.Stages.{Stage, Title, Opening, Image, Running, Over, entry_at, Board as BoardValues, board_at, begun, performed, image_title, begins_image, entered, follow, Follows, IsWrong, count}
 use Rattle.synic_board.specs.Replies.{IsReply}
-use Rattle.law_board.proofs.Replies.{step-fits}
+use Rattle.law_board.proofs.Replies.{step_fits}
 use Rattle.text_trace.proofs.Written.{title-written, entry-written, reply-written, end-written, EntryLine, entry-reads, entry-only, end-no_entry, BoardLine, board-reads, board-only}
 
 -- the lines of entries, and the end
@@ -667,7 +667,7 @@ reached-follow (Running f s c None) next line e =
     (λ is e. let same : Over c ≡ next = cc in subst (Reached (Running f s c None)) same (reached-running f s c))
     (λ e. mapped (performed f s c) (entry_at f line) next (Reached (Running f s c None) next)
     (λ event is e. subst (Reached (Running f s c None)) e
-    (record { bound = omega arith; fits = λ h. step-fits s event })) e) e
+    (record { bound = omega arith; fits = λ h. step_fits s event })) e) e
 reached-follow (Running f s c (Some r)) next line e =
     yes (bytes_eq line (spaced (reply_fields r))) (Some (Running f s c None)) None next
     (Reached (Running f s c (Some r)) next)

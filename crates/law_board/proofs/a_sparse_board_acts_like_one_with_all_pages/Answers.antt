@@ -1,5 +1,0 @@
-use Rattle.law_board.proofs.Sparse.{step-completed}
-use Rattle.law_board.proofs.a_sparse_board_acts_like_one_with_all_pages.Goals as goal
-
-pub returns : goal.returns
-returns c = step-completed
