@@ -18,10 +18,10 @@ class Script:
         sends = any(line.startswith("send ") for line in lines)
         if image is None:
             board = lines.pop(0)
-            self.beginning = "trace %d\n%s\n" % (5 if sends else 4 if " sparse " in board else 2, board)
+            self.beginning = "trace %d\n%s\n" % (3 if sends or " sparse " in board else 2, board)
         else:
             board = image.decode().splitlines()[1]
-            self.beginning = "trace %d\n%s" % (5 if sends else 3, image.decode())
+            self.beginning = "trace 3\n%s" % image.decode()
         self.processors, self.first_ticket = int(board.split()[1]), int(board.split()[3])
         self.setup, self.actors, self.lines = [], [], []
         section = self.setup

@@ -76,14 +76,9 @@ def entries_of(lines, blocks):
     return [b"0 %s\n%s\n" % (line, block.split(b"\n", 1)[0]) for line, block in zip(lines, blocks) if block.startswith(b"= ")]
 
 
-def has_send(lines):
-    """Whether a send is among these lines, which has a line in traces of format 5 alone."""
-    return any(line.startswith(b"send ") for line in lines)
-
-
 def trace_of(text, output, number):
-    """The trace in format 1, 2, 4 or 5 of a script's events and their replies, all by actor 0, and the
-    number of entries. Each accepted message took a ticket."""
+    """The trace in this format of a script's events and their replies, all by actor 0, and the number of
+    entries. Each accepted message took a ticket."""
     entries = entries_of(text.splitlines(), outputs_of_lines(text.splitlines(), output))
     board = next(line for line in text.splitlines() if line.startswith(b"board"))
     end = b"end %d" % len(entries)
@@ -93,13 +88,12 @@ def trace_of(text, output, number):
 
 
 def trace_from(image, lines, blocks):
-    """The trace in format 3, or with a send in format 5, of these lines of a script, with their outputs, on
-    the board of an image, and the number of entries."""
+    """The trace of these lines of a script, with their outputs, on the board of an image, and the number of
+    entries."""
     entries = entries_of(lines, blocks)
     board = image.splitlines()[1]
     ticket = int(board.split()[3]) + b"".join(blocks).count(b"\n. accepted ")
-    number = 5 if has_send(lines) else 3
-    return b"trace %d\n%s%send %d %d\n" % (number, image, b"".join(entries), len(entries), ticket), len(entries)
+    return b"trace 3\n%s%send %d %d\n" % (image, b"".join(entries), len(entries), ticket), len(entries)
 
 
 def is_sparse(text):
@@ -107,11 +101,13 @@ def is_sparse(text):
     return re.search(rb"^board \d+ sparse ", text, re.MULTILINE) is not None
 
 
+def format_for(text):
+    """The format in which a script's trace is written: only format 3 has sparse boards and sends."""
+    return 3 if is_sparse(text) or b"\nsend " in text else 2
+
+
 def formats_of(text):
-    """The formats that a script's trace can have: only format 5 has a line for a send, only it and format 4
-    are of sparse boards, and format 1 has no line for a reset."""
-    if has_send(text.splitlines()):
-        return (5,)
-    if is_sparse(text):
-        return (4, 5)
-    return (2, 5) if b"\nreset " in text else (1, 2, 5)
+    """The formats that a script's trace can have: format 1 has no line for a reset."""
+    if format_for(text) == 3:
+        return (3,)
+    return (2, 3) if b"\nreset " in text else (1, 2, 3)

@@ -88,8 +88,10 @@ SCRIPTS = (
 # wrong traces, and their first wrong line
 TRACES_WITH_A_WRONG_LINE = (
     # the title
-    (b"trace 6\nboard 1 1 0\nend 0 0\n", 1),
-    (b"trace 6\nboard 1 sparse 0\nend 0 0\n", 1),
+    (b"trace 4\nboard 1 1 0\nend 0 0\n", 1),
+    (b"trace 4\nboard 1 sparse 0\nend 0 0\n", 1),
+    (b"trace 5\nboard 1 1 0\nend 0 0\n", 1),
+    (b"trace 5\nimage 1\nboard 1 1 0\nlapic 0 0 0 0 0 0 0 0 0 0 running\nend\nend 0 0\n", 1),
     (b"trace 01\nboard 1 1 0\nend 0\n", 1),
     (b"trace 1\r\nboard 1 1 0\nend 0\n", 1),
     (b"board 1 1 0\nend 0\n", 1),
@@ -100,19 +102,15 @@ TRACES_WITH_A_WRONG_LINE = (
     (b"trace 1\nend 0\n", 2),
     (b"trace 1\nboard 1 sparse 0\nend 0\n", 2),
     (b"trace 2\nboard 1 sparse 0\nend 0 0\n", 2),
-    (b"trace 4\nboard 1 1 0\nend 0 0\n", 2),
-    (b"trace 4\nboard 1 0 0\nend 0 0\n", 2),
-    (b"trace 4\nboard 65 sparse 0\nend 0 0\n", 2),
-    (b"trace 4\nboard 1 sparse 0\nboard 1 sparse 0\nend 0 0\n", 3),
-    (b"trace 4\nboard 1 sparse 0\nend 0\n", 3),
-    (b"trace 5\nend 0 0\n", 2),
-    (b"trace 5\nboard 9 1 0\nend 0 0\n", 2),
-    (b"trace 5\nboard 1 sparse 0\nimage 1\nend 0 0\n", 3),
-    (b"trace 5\nimage 2\nboard 1 1 0\n", 2),
-    (b"trace 5\nimage 1\nboard 1 sparse 0\n", 3),
+    (b"trace 3\nend 0 0\n", 2),
+    (b"trace 3\nboard 9 1 0\nend 0 0\n", 2),
+    (b"trace 3\nboard 1 0 0\nend 0 0\n", 2),
+    (b"trace 3\nboard 65 sparse 0\nend 0 0\n", 2),
+    (b"trace 3\nboard 1 sparse 0\nboard 1 sparse 0\nend 0 0\n", 3),
+    (b"trace 3\nboard 1 sparse 0\nend 0\n", 3),
+    (b"trace 3\nboard 1 sparse 0\nimage 1\nend 0 0\n", 3),
     # the image of format 3
-    (b"trace 3\nboard 1 1 0\nend 0 0\n", 2),
-    (b"trace 3\nboard 1 sparse 0\nend 0 0\n", 2),
+    (b"trace 3\nimage 2\nboard 1 1 0\n", 2),
     (b"trace 3\n\nimage 1\nboard 1 1 0\n", 2),
     (b"trace 3\nimage 1\nboard 1 sparse 0\n", 3),
     (b"trace 3\nimage 1\nlapic 0 0 0 0 0 0 0 0 0 0 running\nend\nend 0 0\n", 3),
@@ -146,11 +144,10 @@ TRACES_WITH_A_WRONG_LINE = (
     (b"trace 1\nboard 1 1 0\n0 reset 0\n= done\nend 1\n", 3),
     (b"trace 1\nboard 1 1 0\n0 reset 1\n= refused 14\nend 1\n", 3),
     (b"trace 2\nboard 1 1 0\n0 reset 1\n= done\nend 1 0\n", 4),
-    # a send, which has no line before format 5
+    # a send, which has no line before format 3
     (b"trace 2\nboard 1 1 0\n0 send 61 1\n= done\nend 1 0\n", 3),
-    (b"trace 4\nboard 1 sparse 0\n0 send 61 2\n= refused 14\nend 1 0\n", 3),
-    (b"trace 5\nboard 1 1 0\n0 send 0f 1\n= done\nend 1 0\n", 3),
-    (b"trace 5\nboard 1 1 0\n0 send 61 2\n= done\nend 1 0\n", 4),
+    (b"trace 3\nboard 1 1 0\n0 send 0f 1\n= done\nend 1 0\n", 3),
+    (b"trace 3\nboard 1 1 0\n0 send 61 2\n= done\nend 1 0\n", 4),
 )
 
 # legal traces, and their number of entries
@@ -162,11 +159,12 @@ TRACES = (
     (b"trace 2\nboard 1 1 5\n0 reset 0\n= done\n0 resume 0\n= refused 16\nend 2 5\n", 2),
     (b"trace 2\nboard 1 1 7\n0 write 0 40000080 1\n= done\n0 open 3 message 0 2 1\n= done\n"
      b"1 post 3 1 -\n= accepted 7\n0 reset 0\n= done\nend 4 8\n", 4),
-    (b"trace 4\nboard 1 sparse 0\nend 0 0\n", 0),
-    (b"trace 5\nboard 1 sparse 0\n0 send ff 1\n= done\nend 1 0\n", 1),
-    (b"trace 5\nboard 8 64 5\n0 send 10 ff\n= done\n0 send 10 1ff\n= refused 14\nend 2 5\n", 2),
-    (b"trace 5\nimage 1\nboard 1 1 5\nlapic 0 0 100000000 0 0 0 0 0 0 0 running\nend\n7 send 60 1\n= done\n0 take 0\n= taken 60\nend 2 5\n", 2),
-    (b"trace 4\nboard 8 sparse 5\n0 load 0 8\n= refused 17\n0 reset 7\n= done\nend 2 5\n", 2),
+    (b"trace 3\nboard 1 1 5\n0 reset 0\n= done\nend 1 5\n", 1),
+    (b"trace 3\nboard 1 sparse 0\nend 0 0\n", 0),
+    (b"trace 3\nboard 1 sparse 0\n0 send ff 1\n= done\nend 1 0\n", 1),
+    (b"trace 3\nboard 8 64 5\n0 send 10 ff\n= done\n0 send 10 1ff\n= refused 14\nend 2 5\n", 2),
+    (b"trace 3\nimage 1\nboard 1 1 5\nlapic 0 0 100000000 0 0 0 0 0 0 0 running\nend\n7 send 60 1\n= done\n0 take 0\n= taken 60\nend 2 5\n", 2),
+    (b"trace 3\nboard 8 sparse 5\n0 load 0 8\n= refused 17\n0 reset 7\n= done\nend 2 5\n", 2),
     (b"trace 3\nimage 1\nboard 1 1 5\nlapic 0 0 0 0 0 0 0 0 0 0 running\nend\nend 0 5\n", 0),
     (b"trace 3\nimage 1\nboard 1 1 5\nlapic 0 0 100000000 0 0 0 0 0 0 0 running\nend\n7 take 0\n= taken 60\n0 take 0\n= taken none\nend 2 5\n", 2),
 )

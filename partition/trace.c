@@ -3,14 +3,14 @@
 
 enum { MOST_ENTRY = 535 };      /* bytes of the two lines of an event and its reply */
 
-/* A guest may send interrupts, so the trace is of format 5, after a board line or an image. */
+/* The trace of a sparse board, with the sends of its guest, is of format 3, after a board line or an image. */
 void partition_trace_begin(struct partition_trace *trace, FILE *file, unsigned vps, const void *image, size_t length)
 {
     *trace = (struct partition_trace){ .file = file };
     if (image == NULL)
-        fprintf(file, "trace 5\nboard %u sparse 0\n", vps);
+        fprintf(file, "trace 3\nboard %u sparse 0\n", vps);
     else
-        fprintf(file, "trace 5\n%.*s", (int)length, (const char *)image);
+        fprintf(file, "trace 3\n%.*s", (int)length, (const char *)image);
 }
 
 /* All are the events of one actor: who holds the lock performs them. */

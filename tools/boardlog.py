@@ -5,11 +5,8 @@ import subprocess
 
 import boardfaults
 
-# the first line of a trace that may begin with a board line
-TITLES = (["trace 1"], ["trace 2"], ["trace 4"], ["trace 5"])
-
-# the first line of a trace that begins with an image, and of an image
-TITLE_OF_AN_IMAGE = ["trace 3"]
+# the first line of a trace, and of an image, which may be the second of a trace
+TITLES = (["trace 1"], ["trace 2"], ["trace 3"])
 IMAGE = ["image 1"]
 NO_IMAGES = "the trace begins with an image, which this tool does not read; `synicboard check` does"
 
@@ -59,7 +56,7 @@ class Step:
 def events_of(text):
     """The board line, and each event with its actor, of a script or of a trace."""
     lines = [line for line in text.splitlines() if line and not line.startswith("#")]
-    if lines[:1] == TITLE_OF_AN_IMAGE or lines[:1] in TITLES and lines[1:2] == IMAGE:
+    if lines[:1] in TITLES and lines[1:2] == IMAGE:
         raise Fault(NO_IMAGES)
     if lines[:1] in TITLES:
         numbered = [line.split(" ", 1) for line in lines[2:] if line[0].isdigit()]

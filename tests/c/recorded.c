@@ -227,10 +227,10 @@ static void test_trace(void)
     close_shared(&shared);
 }
 
-/* A history with a send is a trace of format 5. */
+/* A history with a send is a trace of format 3. */
 static void test_trace_of_a_send(void)
 {
-    static const char wanted[] = "trace 5\nboard 2 4 7\n"
+    static const char wanted[] = "trace 3\nboard 2 4 7\n"
                                  "1 send 60 3\n= done\n"
                                  "0 send 60 8000000000000000\n= refused 14\n"
                                  "end 2 7\n";

@@ -529,7 +529,7 @@ static void open_trace(struct script *script, uint64_t ticket)
     if (script->trace == NULL)
         give_up(NO_FILE, "out of memory");
     /* the format that has a line for each event */
-    fprintf(script->trace, "trace 5\nboard %u %u %" PRIu64 "\n", script->processors, script->pages, ticket);
+    fprintf(script->trace, "trace 3\nboard %u %u %" PRIu64 "\n", script->processors, script->pages, ticket);
 }
 
 static uint8_t open_sized(struct script *script, uint64_t ticket)

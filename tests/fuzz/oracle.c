@@ -90,7 +90,7 @@ struct fuzz *fuzz_open_sparse(uint8_t processors, uint64_t ticket)
     DEMAND(synicboard_open_sparse(&fuzz->by_call, processors, ticket) == SYNICBOARD_OK);
     DEMAND(synicboard_open_sparse(&fuzz->by_call, processors, ticket) == SYNICBOARD_IS_OPEN);
     DEMAND(synicboard_open_line(&fuzz->lines[0], processors) == SYNICBOARD_OK);
-    int length = snprintf(head, sizeof head, "trace 4\nboard %u sparse %" PRIu64 "\n", processors, ticket);
+    int length = snprintf(head, sizeof head, "trace 3\nboard %u sparse %" PRIu64 "\n", processors, ticket);
     add(fuzz, head, (size_t)length);
     return fuzz;
 }
@@ -109,9 +109,9 @@ static void record(struct fuzz *fuzz, const synicboard_event *event, const synic
     free(exact);
     add(fuzz, (const char *)lines, end.length);
     fuzz->entries++;
-    /* format 5 alone has a line for a send */
+    /* format 3 alone has a line for a send */
     if (event->kind == SYNICBOARD_SEND)
-        fuzz->trace[strlen("trace ")] = '5';
+        fuzz->trace[strlen("trace ")] = '3';
 }
 
 /* Checks the entries with an end that has this next ticket. */

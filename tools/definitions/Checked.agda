@@ -16,7 +16,7 @@ open import synic-board.declared.event.Reply using (Reply)
 open import text-base.Fields using (fields-of; spaced)
 open import text-base.Lines using (joined; lines-of)
 open import text-history.Trace using (end-fields; has-line; may-open; may-restore; title-fields)
-open import text-history.declared.format.Format using (Format; One; Two; Three; Four; Five)
+open import text-history.declared.format.Format using (Format; One; Two; Three)
 open import text-lines.Items using (Item)
 open import text-lines.Printing using (reply-fields)
 open import text-lines.Reading using (item-at; parse-event; u8-at)
@@ -80,7 +80,7 @@ entry f s entries (actor ∷ fields) = option-and-then (λ n → option-and-then
   event e = if has-line f e then Some (performed f s entries e) else None
 
 next : Stage → List ℕ → Option Stage
-next Title line = title (One ∷ Two ∷ Three ∷ Four ∷ Five ∷ []) line
+next Title line = title (One ∷ Two ∷ Three ∷ []) line
 next (Opening f) line = or-else (board f (item-at line)) (if may-restore f then image-line f Untitled line else None)
 next (Image f stage) line = image-line f stage line
 next (Entry f s entries) line =

@@ -86,8 +86,8 @@ impl Verdict {
     }
 }
 
-/// Checks whether a text is the trace of a legal history, in one of the formats 1 to 5. A trace of format
-/// 3 begins with an image, as [`Board::save`](crate::Board::save) writes it, and one of format 5 may.
+/// Checks whether a text is the trace of a legal history, in one of the formats 1 to 3. A trace of format
+/// 3 may begin with an image, as [`Board::save`](crate::Board::save) writes it.
 ///
 /// Allocates a board, and frees it.
 ///

@@ -102,7 +102,7 @@ fn traced(script: &[u8]) -> Option<(Vec<u8>, u64)> {
     let mut lines = lines.filter(|line| !line.is_empty() && !line.starts_with(b"#"));
     let opening = lines.next()?;
     let mut board = open(opening).ok()?;
-    let mut trace = [b"trace 5\n", opening, b"\n"].concat();
+    let mut trace = [b"trace 3\n", opening, b"\n"].concat();
     let mut entries = 0;
     for line in lines {
         match lines::step(line) {

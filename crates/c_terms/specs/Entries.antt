@@ -1,7 +1,6 @@
 -- The lines of a trace entry, and the trace of a history.
 use Rattle.std.specs.Prelude.{ℕ, [], ◌∷◌, List, Option, Some, None}
 use Rattle.text_lines.specs.Printing.{text_of}
-use Rattle.text_history.specs.declared.format.Format.TheVariants.{Two}
 use Rattle.text_history.specs.Trace.{history_lines, board_text, format_for, trace}
 use Rattle.c_handles.specs.Histories.{HistoryModel, start_of}
 use Rattle.synic_board.specs.declared.event.Event.{Event}
@@ -14,7 +13,8 @@ entry_text actor (Some event) (Some reply) =
 entry_text actor (Some event) None = None
 entry_text actor None reply = None
 
--- the trace of a history, in format 2, or in format 5 if it has a send
+-- the trace of a history, in format 2, or in format 3 if it has a send
 abbrev pub trace_of : HistoryModel → List ℕ
 trace_of h =
-    trace (format_for Two h.entries) (board_text h.processors (Some h.pages) h.first_ticket) (start_of h) h.entries
+    trace (format_for (Some h.pages) h.entries) (board_text h.processors (Some h.pages) h.first_ticket) (start_of h)
+    h.entries

@@ -9,7 +9,7 @@ use c_handles::History;
 use std::alloc::{AllocError, Global};
 use text_history::put_trace;
 
-/// The trace of a history, in format 2, or in format 5 if it has a send. It is legal, with as many
+/// The trace of a history, in format 2, or in format 3 if it has a send. It is legal, with as many
 /// entries as the history.
 /// `next_ticket` is that of the board to which the history leads.
 pub fn trace_of(
@@ -27,7 +27,7 @@ pub fn trace_of(
     put_trace(
         &mut text,
         processors,
-        pages,
+        Some(pages),
         history.first_ticket(),
         entries.as_slice(),
         next_ticket,

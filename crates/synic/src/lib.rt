@@ -34,4 +34,4 @@ pub use board_threads::{
     RecordedBoard, Scripts, SettleFault, Setup, Standing, Step, Worker, run_crew,
 };
 pub use synic_board::{Board, Entry, Event, OpenFault, Reply, Stopped, Summary, msr, run};
-pub use text_history::{Format, put_sparse_trace, put_trace, put_trace_from_image};
+pub use text_history::{Format, put_trace, put_trace_from_image};

@@ -14,8 +14,6 @@ use Rattle.text_lines.specs.declared.fault.ScriptFault.{ScriptFault}
 use Rattle.text_driver.specs.Driving.{ReadsNear}
 use Rattle.text_image.specs.Image.{image}
 use Rattle.text_history.specs.Trace.{board_text, format_for, trace, IsTrace}
-use Rattle.text_history.specs.declared.format.Format.{Format}
-use Rattle.text_history.specs.declared.format.Format.TheVariants.{Two, Three, Four}
 use Rattle.text_crew.specs.Crew.{Crew, new_crew, finished, entries_of}
 use Rattle.text_crew.specs.Reading.{parse_from}
 use Rattle.text_crew.specs.declared.running.CrewRun.{CrewRun}
@@ -34,13 +32,13 @@ pub record IsScriptHistory (crew : Crew) (start : State) (history : List Entry) 
   pub raises : AreAbsorbed (4 * crew.processors) (logs_of crew.lines answers) history standing
   pub clear : All (λ (word : ℕ). word ≡ 0) standing
 
--- The trace of a history of a crew, in this format or with a send in format 5. It is the trace of a legal history
--- with as many entries as the script has.
-pub record IsCrewTrace (format : Format) (beginning : List ℕ) (start : State) (crew : Crew)
+-- The trace of a history of a crew, in the format for these pages: those in its board line, which a sparse board and an
+-- image do not have. It is the trace of a legal history with as many entries as the script has.
+pub record IsCrewTrace (pages : Option ℕ) (beginning : List ℕ) (start : State) (crew : Crew)
     (text : List ℕ) : Type 0 where
   pub history : List Entry
   pub is : IsScriptHistory crew start history
-  pub written : text ≡ trace (format_for format history) beginning start history
+  pub written : text ≡ trace (format_for pages history) beginning start history
   pub legal : IsTrace text (entries_of crew)
 
 -- the pages in the board line of a board that holds so many; a sparse board holds none
@@ -48,20 +46,15 @@ abbrev pub line_pages : ℕ → Option ℕ
 line_pages zero = None
 line_pages (suc n) = Some (suc n)
 
--- the format of its trace without a send
-abbrev pub opened_format : ℕ → Format
-opened_format zero = Four
-opened_format (suc n) = Two
-
--- of a crew whose script opens its board, in format 2, or in format 4 if the board is sparse
+-- of a crew whose script opens its board
 abbrev pub IsOpenedTrace : Crew → List ℕ → Type 0
 IsOpenedTrace crew =
-    IsCrewTrace (opened_format crew.pages) (board_text crew.processors (line_pages crew.pages) crew.first_ticket)
+    IsCrewTrace (line_pages crew.pages) (board_text crew.processors (line_pages crew.pages) crew.first_ticket)
     (opened crew.processors crew.pages crew.first_ticket) crew
 
--- of a crew on a board in this state, in format 3: it begins with the image of the state
+-- of a crew on a board in this state: it begins with the image of the state
 abbrev pub IsGivenTrace : State → Crew → List ℕ → Type 0
-IsGivenTrace s = IsCrewTrace Three (image s) s
+IsGivenTrace s = IsCrewTrace None (image s) s
 
 -- the board of a crew: one in this state, or one that its script opens
 abbrev pub IsTraceOn : Option State → Crew → List ℕ → Type 0

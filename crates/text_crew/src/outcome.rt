@@ -3,11 +3,10 @@ ghost use Rattle.std.specs.Prelude.{◌≡◌, ◌≢◌, ◌<◌, ◌^◌, [], 
 ghost use Rattle.synic_board.specs.State.{IsWithinLimits, opened};
 ghost use Rattle.text_image.specs.Image.{image};
 ghost use Rattle.text_restore.specs.Images.{IsImage};
-ghost use Rattle.text_history.specs.Trace.{board_text};
 ghost use Rattle.text_crew.specs.Running.{line_pages};
 ghost use Rattle.text_crew.specs.inside.Good.{HasBoard, IsGoodOn};
 ghost use Rattle.text_crew.specs.inside.Reporting.{Prepares};
-ghost use Rattle.text_crew.specs.inside.Tracing.{Begins, IsTraced, begun_format, begun_text};
+ghost use Rattle.text_crew.specs.inside.Tracing.{Begins, IsTraced, begun_pages, begun_text};
 ghost use Rattle.text_crew.specs.inside.View.{crew_of, image_in, state_in};
 
 use crate::held::CrewScript;
@@ -17,7 +16,7 @@ use std::alloc::{AllocError, Global};
 use std::sync::Wait;
 use std::thread::Threads;
 use synic_board::{Board, OpenFault};
-use text_history::{Format, put_sparse_trace, put_trace, put_trace_from_image};
+use text_history::{put_trace, put_trace_from_image};
 use text_image::put_image;
 use text_lines::open_board;
 
@@ -116,53 +115,22 @@ fn image_of(alloc: Global, board: &Board) -> Result<Vec<u8>, AllocError>
 /// Appends the trace of a crew that has ended. It is separate from `prepare`, so that one owner drops the
 /// crew.
 fn put_ended(setup: &Setup, image: &Option<Vec<u8>>, ended: &Ended, out: &mut Vec<u8>) -> Outcome
-    ensures { IsTraced (begun_format (image_in image.now) setup.now.pages)
+    ensures { IsTraced (begun_pages (image_in image.now) setup.now.pages)
         (begun_text (image_in image.now) setup.now) result ended.now out.old.items out.new.items }
 {
-    match image {
-        Some(image) => put_given(image.as_slice(), ended, out),
-        None if setup.pages == 0 => put_sparse(setup, ended, out),
-        None => put_opened(setup, ended, out),
-    }
-}
-
-/// Appends the trace of a crew that has ended, on a board that its script opened.
-fn put_opened(setup: &Setup, ended: &Ended, out: &mut Vec<u8>) -> Outcome
-    ensures { IsTraced Format.Two
-        (board_text setup.now.processors (Some setup.now.pages) setup.now.first_ticket) result ended.now out.old.items
-        out.new.items }
-{
-    match put_trace(
-        out,
-        setup.processors,
-        setup.pages,
-        setup.first_ticket,
-        ended.history.as_slice(),
-        ended.board.next_ticket(),
-    ) {
-        Ok(()) => Outcome::Done,
-        Err(_) => Outcome::Memory,
-    }
-}
-
-/// Appends the trace of a crew that has ended, on a sparse board that its script opened.
-fn put_sparse(setup: &Setup, ended: &Ended, out: &mut Vec<u8>) -> Outcome
-    ensures { IsTraced Format.Four
-        (board_text setup.now.processors None setup.now.first_ticket) result ended.now out.old.items out.new.items }
-{
     let (history, next) = (ended.history.as_slice(), ended.board.next_ticket());
-    match put_sparse_trace(out, setup.processors, setup.first_ticket, history, next) {
-        Ok(()) => Outcome::Done,
-        Err(_) => Outcome::Memory,
-    }
-}
-
-/// Appends the trace of a crew that has ended, on a board whose state had this image.
-fn put_given(image: &[u8], ended: &Ended, out: &mut Vec<u8>) -> Outcome
-    ensures { IsTraced Format.Three image.now result ended.now out.old.items out.new.items }
-{
-    let (history, next) = (ended.history.as_slice(), ended.board.next_ticket());
-    match put_trace_from_image(out, image, history, next) {
+    let done = match image {
+        Some(image) => put_trace_from_image(out, image.as_slice(), history, next),
+        None => put_trace(
+            out,
+            setup.processors,
+            line_pages(setup.pages),
+            setup.first_ticket,
+            history,
+            next,
+        ),
+    };
+    match done {
         Ok(()) => Outcome::Done,
         Err(_) => Outcome::Memory,
     }

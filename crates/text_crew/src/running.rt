@@ -40,8 +40,8 @@ pub enum CrewRun {
 }
 
 /// Reads a whole crew script, runs its crew on a board of its own, the actors and lines concurrently,
-/// and writes the trace of the run: of format 5 if it has a send, otherwise of format 4 if the board is
-/// sparse, and of format 2 if not. If a line is wrong, writes only its fault.
+/// and writes the trace of the run: of format 3 if the board is sparse or the run has a send, otherwise
+/// of format 2. If a line is wrong, writes only its fault.
 /// The gate is called around each call of an actor or a line. The script and the history are kept in
 /// memory.
 pub fn crew<T: Threads + Wait + Sync, R: Read, W: Write, G: Gate + Sync>(
@@ -60,8 +60,8 @@ pub fn crew<T: Threads + Wait + Sync, R: Read, W: Write, G: Gate + Sync>(
 }
 
 /// Runs a crew on a board that is open, such as one that was restored. The script has no board line,
-/// and the trace, of format 3 or with a send of format 5, begins with the image of the board, which it also
-/// allocates. Otherwise the same as `crew`.
+/// and the trace, of format 3, begins with the image of the board, which it also allocates. Otherwise
+/// the same as `crew`.
 pub fn crew_on<T: Threads + Wait + Sync, R: Read, W: Write, G: Gate + Sync>(
     rt: &T,
     alloc: Global,

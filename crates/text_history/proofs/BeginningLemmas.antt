@@ -1,37 +1,38 @@
 -- What begins a trace, and the trace of a legal history.
-use Rattle.std.proofs.Common.{inl, inr, ℕ, List, length, refl}
-use Rattle.std.specs.Prelude.{Bool, true, false, if◌then◌else◌}
+use Rattle.std.proofs.Common.{◌≡◌, inl, ℕ, ◌<◌, ◌^◌, List, length, refl}
+use Rattle.std.specs.Prelude.{Bool, true, false, not, if◌then◌else◌, Option, None, Some}
 use Rattle.std.specs.List.{All}
 use Rattle.synic_board.specs.State.{State}
 use Rattle.synic_board.specs.History.{IsLegal}
 use Rattle.synic_board.specs.declared.history.Entry.{Entry}
+use Rattle.text_lines.specs.Sizes.{AreBoardSizes, opened_by}
 use Rattle.text_history.specs.declared.format.Format.{Format}
-use Rattle.text_history.specs.declared.format.Format.TheVariants.{Five}
-use Rattle.text_history.specs.Trace.{IsEntry, IsBeginning, IsTrace, has_send, format_for, trace}
+use Rattle.text_history.specs.declared.format.Format.TheVariants.{Two, Three}
+use Rattle.text_history.specs.Trace.{IsEntry, IsBeginning, IsTrace, board_text, has_send, format_for, may_open, trace}
 
--- what begins a trace of any format begins one of format 5
-in-five : (f : Format) (beginning : List ℕ) (s : State) → IsBeginning f beginning s → IsBeginning Five beginning s
-in-five f beginning s (inl h) =
+-- a board line within the limits begins a trace of the format in which a history is written after it
+pub line-begins : (processors : ℕ) (pages : Option ℕ) (ticket : ℕ) (history : List Entry)
+    → AreBoardSizes processors pages → ticket < 2 ^ 64 →
+    IsBeginning (format_for pages history) (board_text processors pages ticket) (opened_by processors pages ticket)
+line-begins processors pages ticket history sizes given =
     inl (record {
-      processors = h.processors;
-      pages = h.pages;
-      ticket = h.ticket;
-      form = refl;
-      sizes = h.sizes;
-      given = h.given;
-      line = h.line;
-      state = h.state;
+      processors = processors;
+      pages = pages;
+      ticket = ticket;
+      form = form pages;
+      sizes = sizes;
+      given = given;
+      line = refl;
+      state = refl;
     })
-in-five f beginning s (inr h) = inr (refl, h.1)
-
--- so it begins one of the format in which a history is written
-pub begins-for : (f : Format) (history : List Entry) (beginning : List ℕ) (s : State) → IsBeginning f beginning s
-    → IsBeginning (format_for f history) beginning s
-begins-for f history beginning s h = by (has_send history)
   where
-    by : (t : Bool) → IsBeginning (if t then Five else f) beginning s
-    by true = in-five f beginning s h
-    by false = h
+    by : (n : ℕ) (sent : Bool) → may_open (if not sent then Two else Three) (Some n) ≡ true
+    by n true = refl
+    by n false = refl
+
+    form : (g : Option ℕ) → may_open (format_for g history) g ≡ true
+    form None = refl
+    form (Some n) = by n (has_send history)
 
 pub trace-is : (f : Format) (beginning : List ℕ) (s : State) (history : List Entry) → IsBeginning f beginning s
     → All (IsEntry f) history → IsLegal s history →

@@ -1,17 +1,16 @@
 -- The lines of a history, one entry after another.
 use Rattle.std.proofs.Common.{◌≡◌, ℕ, ◌+◌, ◌<◌, List, [], ◌∷◌, ◌++◌, length, get_or, drop, append_assoc, append-nil, refl, sym, ap, ◌∙◌}
-use Rattle.std.specs.Prelude.{Bool, true, false, not, ◌||◌, if◌then◌else◌}
+use Rattle.std.specs.Prelude.{Bool, true, false, not, ◌||◌, if◌then◌else◌, Option, None, Some}
 use Rattle.std.specs.List.{All}
 use Rattle.std.proofs.lemmas.List.Elements.{All-nil, All-head, All-tail, All-cons}
 use Rattle.std.proofs.lemmas.List.{drop_more}
 use Rattle.text_base.specs.Fields.{spaced, line_of}
-use Rattle.synic_board.specs.declared.event.Event.{Event}
 use Rattle.synic_board.specs.declared.history.Entry.{Entry}
 use Rattle.text_lines.specs.Printing.{text_of}
 use Rattle.text_lines.proofs.PrintLemmas.{text_of-append}
 use Rattle.text_history.specs.declared.format.Format.{Format}
-use Rattle.text_history.specs.declared.format.Format.TheVariants.{Two, Three, Four, Five}
-use Rattle.text_history.specs.Trace.{IsEntry, is_send, has_send, has_line, format_for, title_fields, end_fields, history_lines, rest_lines, trace_text}
+use Rattle.text_history.specs.declared.format.Format.TheVariants.{Two, Three}
+use Rattle.text_history.specs.Trace.{IsEntry, is_send, has_send, format_for, title_fields, end_fields, history_lines, rest_lines, trace_text}
 
 -- one more entry
 pub history-step : (history : List Entry) (i : ℕ) (e : Entry) (so_far next out : List ℕ) → i < length history
@@ -53,41 +52,30 @@ trace-parts f beginning history next out a b c h i j =
     ∙ append_assoc (out ++ title) beginning rest
     ∙ append_assoc out title (beginning ++ rest)
 
--- a send is written in format 5, and without one each format but the first has the entries of format 5
-abbrev HasAll : Format → Type 0
-HasAll f = (e : Event) → is_send e ≡ false → has_line f e ≡ true
-
+-- a history without a send has the entries of format 2
 none-sent : (b : Bool) → b ≡ false → not b ≡ true
 none-sent true e = cc
 none-sent false e = refl
-
-pub two-all : HasAll Two
-two-all e none = none-sent (is_send e) none
-
-pub three-all : HasAll Three
-three-all e none = none-sent (is_send e) none
-
-pub four-all : HasAll Four
-four-all e none = none-sent (is_send e) none
 
 neither : (a b : Bool) → (a || b) ≡ false → (a ≡ false) × (b ≡ false)
 neither true b e = cc
 neither false b e = (refl, e)
 
--- a history without a send
-none-written : (f : Format) → HasAll f → (history : List Entry) → has_send history ≡ false
-    → All (IsEntry Five) history → All (IsEntry f) history
-none-written f all [] none fits = All-nil (IsEntry f)
-none-written f all (e ∷ history) none fits =
-    let h : IsEntry Five e = All-head (IsEntry Five) e history fits in
+none-written : (history : List Entry) → has_send history ≡ false → All (IsEntry Three) history
+    → All (IsEntry Two) history
+none-written [] none fits = All-nil (IsEntry Two)
+none-written (e ∷ history) none fits =
+    let h : IsEntry Three e = All-head (IsEntry Three) e history fits in
     let both = neither (is_send e.event) (has_send history) none in
-    All-cons (IsEntry f) e history (record { actor = h.actor; event = h.event; line = all e.event both.0 })
-    (none-written f all history both.1 (All-tail (IsEntry Five) e history fits))
+    All-cons (IsEntry Two) e history
+    (record { actor = h.actor; event = h.event; line = none-sent (is_send e.event) both.0 })
+    (none-written history both.1 (All-tail (IsEntry Three) e history fits))
 
-pub all-written : (f : Format) → HasAll f → (history : List Entry) → All (IsEntry Five) history
-    → All (IsEntry (format_for f history)) history
-all-written f all history fits = by (has_send history) refl
+pub all-written : (pages : Option ℕ) (history : List Entry) → All (IsEntry Three) history
+    → All (IsEntry (format_for pages history)) history
+all-written None history fits = fits
+all-written (Some pages) history fits = by (has_send history) refl
   where
-    by : (t : Bool) → has_send history ≡ t → All (IsEntry (if t then Five else f)) history
+    by : (t : Bool) → has_send history ≡ t → All (IsEntry (if not t then Two else Three)) history
     by true is = fits
-    by false is = none-written f all history is fits
+    by false is = none-written history is fits

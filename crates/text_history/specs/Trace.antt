@@ -1,5 +1,5 @@
 -- The text form of a history.
-use Rattle.std.specs.Prelude.{◌≡◌, ◌⊎◌, ℕ, ◌<◌, ◌^◌, List, [], ◌∷◌, ◌++◌, length, Bool, true, false, not, ◌&&◌, if◌then◌else◌, Option, is_some, is_none, codes, decimal}
+use Rattle.std.specs.Prelude.{◌≡◌, ◌⊎◌, ℕ, ◌<◌, ◌^◌, List, [], ◌∷◌, ◌++◌, length, Bool, true, false, not, ◌&&◌, if◌then◌else◌, Option, is_some, codes, decimal}
 use Rattle.std.specs.List.{All, list_any}
 use Rattle.synic_board.specs.State.{State}
 use Rattle.synic_board.specs.History.{IsLegal, leads_to}
@@ -13,7 +13,7 @@ use Rattle.text_lines.specs.Printing.{text_of, reply_fields}
 use Rattle.text_lines.specs.Sizes.{AreBoardSizes, opened_by}
 use Rattle.text_restore.specs.Images.{IsImage}
 use Rattle.text_history.specs.declared.format.Format.{Format}
-use Rattle.text_history.specs.declared.format.Format.TheVariants.{One, Two, Three, Four, Five}
+use Rattle.text_history.specs.declared.format.Format.TheVariants.{One, Two, Three}
 
 abbrev pub is_reset : Event → Bool
 is_reset (Reset vp) = true
@@ -23,13 +23,11 @@ abbrev pub is_send : Event → Bool
 is_send (Send vector mask) = true
 is_send event = false
 
--- a reset has no line in format 1, and a send has one in format 5 alone
+-- a reset has no line in format 1, and a send has one in format 3 alone
 abbrev pub has_line : Format → Event → Bool
 has_line One event = not (is_reset event) && not (is_send event)
 has_line Two event = not (is_send event)
-has_line Three event = not (is_send event)
-has_line Four event = not (is_send event)
-has_line Five event = true
+has_line Three event = true
 
 -- an entry that has a line, and the ranges of its fields
 pub record IsEntry (f : Format) (e : Entry) : Type 0 where
@@ -41,8 +39,6 @@ abbrev pub title_fields : Format → List (List ℕ)
 title_fields One = codes "trace" ∷ codes "1" ∷ []
 title_fields Two = codes "trace" ∷ codes "2" ∷ []
 title_fields Three = codes "trace" ∷ codes "3" ∷ []
-title_fields Four = codes "trace" ∷ codes "4" ∷ []
-title_fields Five = codes "trace" ∷ codes "5" ∷ []
 
 abbrev pub entry_fields : ℕ → Event → List (List ℕ)
 entry_fields actor event = decimal actor ∷ event_fields event
@@ -52,8 +48,6 @@ abbrev pub end_fields : Format → ℕ → ℕ → List (List ℕ)
 end_fields One entries next = codes "end" ∷ decimal entries ∷ []
 end_fields Two entries next = codes "end" ∷ decimal entries ∷ decimal next ∷ []
 end_fields Three entries next = codes "end" ∷ decimal entries ∷ decimal next ∷ []
-end_fields Four entries next = codes "end" ∷ decimal entries ∷ decimal next ∷ []
-end_fields Five entries next = codes "end" ∷ decimal entries ∷ decimal next ∷ []
 
 -- two lines for each entry
 abbrev pub history_lines : List Entry → List (List (List ℕ))
@@ -75,19 +69,15 @@ trace f beginning s history = trace_text f beginning history (leads_to s history
 abbrev pub board_text : ℕ → Option ℕ → ℕ → List ℕ
 board_text processors pages ticket = line_of (item_fields (Opening processors pages ticket))
 
--- the board line of formats 1 and 2 opens a board that holds its guest pages, that of format 4 a sparse board, and
--- that of format 5 either
+-- the board line of formats 1 and 2 opens a board that holds its guest pages, that of format 3 also a sparse board
 abbrev pub may_open : Format → Option ℕ → Bool
 may_open One pages = is_some pages
 may_open Two pages = is_some pages
-may_open Three pages = false
-may_open Four pages = is_none pages
-may_open Five pages = true
+may_open Three pages = true
 
--- in formats 3 and 5 an image may be in place of the board line
+-- in format 3 an image may be in place of the board line
 abbrev pub may_restore : Format → Bool
 may_restore Three = true
-may_restore Five = true
 may_restore f = false
 
 -- the text is a board line of this format within the limits, and opens a board of this state
@@ -108,9 +98,10 @@ IsBeginning f text s = IsOpening f text s ⊎ ((may_restore f ≡ true) × IsIma
 abbrev pub has_send : List Entry → Bool
 has_send history = list_any (λ e. is_send e.event) history
 
--- the format in which a history is written: format 5 if it has a send, and otherwise this one
-abbrev pub format_for : Format → List Entry → Format
-format_for f history = if has_send history then Five else f
+-- The format in which a history is written after a board line with these pages: format 2 if that can hold it, and
+-- otherwise format 3, as after an image or the board line of a sparse board, which have no pages.
+abbrev pub format_for : Option ℕ → List Entry → Format
+format_for pages history = if is_some pages && not (has_send history) then Two else Three
 
 -- The text is the trace of a legal history of that many entries.
 pub record IsTrace (text : List ℕ) (entries : ℕ) : Type 0 where

@@ -5,30 +5,16 @@ ghost use Rattle.text_history.specs.Trace.{format_for, has_send, may_open, may_r
 use synic_board::{Entry, Event};
 
 /// The formats of a trace, named by its first line. All but format 1 have lines for resets of a
-/// processor, and their last line has the next ticket. Format 3 has an image in place of the board
-/// line, and the board line of format 4 opens a sparse board. Format 5 begins in any of these ways,
-/// and has lines for interrupts that are sent to several processors.
+/// processor, and their last line has the next ticket. Format 3 begins with a board line of either
+/// form or with an image, and has lines for interrupts that are sent to several processors.
 #[derive(Clone, Copy, PartialEq, Eq, Debug)]
 pub enum Format {
     One,
     Two,
     Three,
-    Four,
-    Five,
 }
 
 impl Format {
-    /// The format in which a history is written: format 5 if it has a send, and otherwise this one.
-    pub(crate) fn for_history(self, history: &[Entry]) -> Format
-        ensures { result ≡ format_for self history.now }
-    {
-        if has_send(history) {
-            Format::Five
-        } else {
-            self
-        }
-    }
-
     /// Whether the board line of this format may open a board with these pages, of which a sparse
     /// one has none.
     pub fn may_open(self, pages: Option<u8>) -> bool
@@ -36,9 +22,7 @@ impl Format {
     {
         match self {
             Format::One | Format::Two => pages.is_some(),
-            Format::Three => false,
-            Format::Four => pages.is_none(),
-            Format::Five => true,
+            Format::Three => true,
         }
     }
 
@@ -46,7 +30,19 @@ impl Format {
     pub fn may_restore(self) -> bool
         ensures { result ≡ may_restore self }
     {
-        matches!(self, Format::Three | Format::Five)
+        matches!(self, Format::Three)
+    }
+}
+
+/// The format in which a history is written after a board line with these pages: format 2 if that
+/// can hold it, which has neither sparse boards nor sends, and otherwise format 3.
+pub(crate) fn format_for(pages: Option<u8>, history: &[Entry]) -> Format
+    ensures { result ≡ format_for pages history.now }
+{
+    if pages.is_some() && !has_send(history) {
+        Format::Two
+    } else {
+        Format::Three
     }
 }
 

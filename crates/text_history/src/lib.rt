@@ -5,4 +5,4 @@ mod format;
 mod print;
 
 pub use format::Format;
-pub use print::{put_end, put_entry, put_sparse_trace, put_trace, put_trace_from_image};
+pub use print::{put_end, put_entry, put_trace, put_trace_from_image};

@@ -1,63 +1,43 @@
 // Printing a history.
-ghost use Rattle.std.specs.Prelude.{◌≡◌, ◌++◌, [], ◌∷◌, None, Some, OnOk};
+ghost use Rattle.std.specs.Prelude.{◌≡◌, ◌++◌, [], ◌∷◌, OnOk};
 ghost use Rattle.std.specs.List.{All};
 ghost use Rattle.text_base.specs.Fields.{spaced, line_of};
 ghost use Rattle.text_lines.specs.Items.{pages_field};
 ghost use Rattle.text_lines.specs.Printing.{text_of};
 ghost use Rattle.text_history.specs.Trace.{IsEntry, title_fields, end_fields, history_lines, rest_lines, board_text, trace_text, format_for};
 
-use crate::format::Format;
+use crate::format::{Format, format_for};
 use board_terms::Ticket;
 use std::alloc::AllocError;
 use synic_board::Entry;
 use text_base::put_decimal;
 use text_lines::{put_event, put_reply};
 
-/// Appends the trace of a history, in format 2, or in format 5 if it has a send, to `out`: for a board
-/// of that many processors and pages, with its first ticket, and the next ticket after the history.
+/// Appends the trace of a history to `out`: for a board of that many processors and pages, or a sparse
+/// one, which has none, with its first ticket, and the next ticket after the history. The format is 2 for
+/// a board with pages and a history without a send, otherwise 3.
 pub fn put_trace(
     out: &mut Vec<u8>,
     processors: u8,
-    pages: u8,
+    pages: Option<u8>,
     first_ticket: Ticket,
     history: &[Entry],
     next_ticket: Ticket,
 ) -> Result<(), AllocError>
     ensures written { OnOk result
         (out.new.items ≡ out.old.items
-        ++ trace_text (format_for Format.Two history.now)
-        (board_text processors (Some pages) first_ticket) history.now next_ticket) }
-    ensures fits { OnOk result (All (IsEntry (format_for Format.Two history.now)) history.now) }
+        ++ trace_text (format_for pages history.now)
+        (board_text processors pages first_ticket) history.now next_ticket) }
+    ensures fits { OnOk result (All (IsEntry (format_for pages history.now)) history.now) }
 {
-    let format = Format::Two.for_history(history);
+    let format = format_for(pages, history);
     put_title(out, format)?;
-    put_opening(out, processors, Some(pages), first_ticket)?;
+    put_opening(out, processors, pages, first_ticket)?;
     put_rest(out, format, history, next_ticket)
 }
 
-/// Appends the trace of a history, in format 4, or in format 5 if it has a send, to `out`: for a sparse
-/// board of that many processors, with its first ticket, and the next ticket after the history.
-pub fn put_sparse_trace(
-    out: &mut Vec<u8>,
-    processors: u8,
-    first_ticket: Ticket,
-    history: &[Entry],
-    next_ticket: Ticket,
-) -> Result<(), AllocError>
-    ensures written { OnOk result
-        (out.new.items ≡ out.old.items
-        ++ trace_text (format_for Format.Four history.now)
-        (board_text processors None first_ticket) history.now next_ticket) }
-    ensures fits { OnOk result (All (IsEntry (format_for Format.Four history.now)) history.now) }
-{
-    let format = Format::Four.for_history(history);
-    put_title(out, format)?;
-    put_opening(out, processors, None, first_ticket)?;
-    put_rest(out, format, history, next_ticket)
-}
-
-/// Appends the trace of a history, in format 3, or in format 5 if it has a send, to `out`: for a board
-/// whose state before the history has this image, with the next ticket after the history.
+/// Appends the trace of a history to `out`, in format 3: for a board whose state before the history
+/// has this image, with the next ticket after the history.
 pub fn put_trace_from_image(
     out: &mut Vec<u8>,
     image: &[u8],
@@ -65,14 +45,12 @@ pub fn put_trace_from_image(
     next_ticket: Ticket,
 ) -> Result<(), AllocError>
     ensures written { OnOk result
-        (out.new.items ≡ out.old.items
-        ++ trace_text (format_for Format.Three history.now) image.now history.now next_ticket) }
-    ensures fits { OnOk result (All (IsEntry (format_for Format.Three history.now)) history.now) }
+        (out.new.items ≡ out.old.items ++ trace_text Format.Three image.now history.now next_ticket) }
+    ensures fits { OnOk result (All (IsEntry Format.Three) history.now) }
 {
-    let format = Format::Three.for_history(history);
-    put_title(out, format)?;
+    put_title(out, Format::Three)?;
     out.extend_from_slice(image)?;
-    put_rest(out, format, history, next_ticket)
+    put_rest(out, Format::Three, history, next_ticket)
 }
 
 /// Appends the title.
@@ -83,8 +61,6 @@ fn put_title(out: &mut Vec<u8>, format: Format) -> Result<(), AllocError>
         Format::One => b"trace 1\n",
         Format::Two => b"trace 2\n",
         Format::Three => b"trace 3\n",
-        Format::Four => b"trace 4\n",
-        Format::Five => b"trace 5\n",
     })
 }
 
@@ -125,7 +101,7 @@ fn put_rest(
 ) -> Result<(), AllocError>
     ensures written { OnOk result
         (out.new.items ≡ out.old.items ++ text_of (rest_lines format history.now next_ticket)) }
-    ensures fits { OnOk result (All (IsEntry Format.Five) history.now) }
+    ensures fits { OnOk result (All (IsEntry Format.Three) history.now) }
 {
     put_history(out, history)?;
     put_end(out, format, history.len() as u64, next_ticket)?;
@@ -135,7 +111,7 @@ fn put_rest(
 /// Appends the lines of each entry.
 fn put_history(out: &mut Vec<u8>, history: &[Entry]) -> Result<(), AllocError>
     ensures written { OnOk result (out.new.items ≡ out.old.items ++ text_of (history_lines history.now)) }
-    ensures fits { OnOk result (All (IsEntry Format.Five) history.now) }
+    ensures fits { OnOk result (All (IsEntry Format.Three) history.now) }
 {
     for entry in history {
         put_entry(out, entry)?;
@@ -146,7 +122,7 @@ fn put_history(out: &mut Vec<u8>, history: &[Entry]) -> Result<(), AllocError>
 /// Appends the two lines of an entry to `out`.
 pub fn put_entry(out: &mut Vec<u8>, entry: &Entry) -> Result<(), AllocError>
     ensures written { OnOk result (out.new.items ≡ out.old.items ++ text_of (history_lines (entry.now ∷ []))) }
-    ensures fits { OnOk result (IsEntry Format.Five entry.now) }
+    ensures fits { OnOk result (IsEntry Format.Three entry.now) }
 {
     put_decimal(out, entry.actor)?;
     out.extend_from_slice(b" ")?;
@@ -169,7 +145,7 @@ pub fn put_end(
     put_decimal(out, entries)?;
     match format {
         Format::One => Ok(()),
-        Format::Two | Format::Three | Format::Four | Format::Five => {
+        Format::Two | Format::Three => {
             out.extend_from_slice(b" ")?;
             put_decimal(out, next)
         }

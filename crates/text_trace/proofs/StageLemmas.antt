@@ -28,7 +28,7 @@ use Rattle.text_restore.specs.Taking.{has_ended}
 use Rattle.text_restore.proofs.Unique.{one-next}
 use Rattle.text_restore.proofs.Completing.{IsOpen, no-more, ended, not-ended, open-next, Ending, can-end}
 use Rattle.text_history.specs.declared.format.Format.{Format}
-use Rattle.text_history.specs.declared.format.Format.TheVariants.{One, Two, Three, Four, Five}
+use Rattle.text_history.specs.declared.format.Format.TheVariants.{One, Two, Three}
 use Rattle.text_history.specs.Trace.{IsEntry, title_fields, entry_fields, end_fields, history_lines, trace, board_text, may_open, may_restore, IsOpening, IsBeginning, IsTrace}
 use Rattle.text_trace.specs.inside.Stages.{Stage, Title, Opening, Image, Running, Over, entry_at, Board as BoardValues, board_at, begun, performed, image_title, begins_image, entered, follow, Follows, IsWrong, count}
 use Rattle.synic_board.specs.Replies.{IsReply}
@@ -150,8 +150,6 @@ pub title-follows : (f : Format) → follow Title (spaced (title_fields f)) ≡ 
 title-follows One = refl
 title-follows Two = refl
 title-follows Three = refl
-title-follows Four = refl
-title-follows Five = refl
 
 back-board : (f : Format) (line ys : List ℕ) (n : ℕ) (beginning : List ℕ) (s : State) (history : List Entry)
     → IsOneLine line →
@@ -545,9 +543,7 @@ forward-title : (next : Stage) (line ys : List ℕ) (n : ℕ) → follow Title l
 forward-title next line ys n e h =
     yes (bytes_eq line (spaced (title_fields One))) (Some (Opening One)) _ next _ (titled One)
     (yes (bytes_eq line (spaced (title_fields Two))) (Some (Opening Two)) _ next _ (titled Two)
-    (yes (bytes_eq line (spaced (title_fields Three))) (Some (Opening Three)) _ next _ (titled Three)
-    (yes (bytes_eq line (spaced (title_fields Four))) (Some (Opening Four)) _ next _ (titled Four)
-    (yes (bytes_eq line (spaced (title_fields Five))) (Some (Opening Five)) None next _ (titled Five) (λ e. cc))))) e
+    (yes (bytes_eq line (spaced (title_fields Three))) (Some (Opening Three)) None next _ (titled Three) (λ e. cc))) e
   where
     titled : (f : Format) → bytes_eq line (spaced (title_fields f)) ≡ true → Some (Opening f) ≡ Some next
         → IsTrace (line ++ 10 ∷ ys) n
@@ -642,9 +638,7 @@ reached-title : (next : Stage) (line : List ℕ) → follow Title line ≡ Some 
 reached-title next line e =
     yes (bytes_eq line (spaced (title_fields One))) (Some (Opening One)) _ next _ (titled One)
     (yes (bytes_eq line (spaced (title_fields Two))) (Some (Opening Two)) _ next _ (titled Two)
-    (yes (bytes_eq line (spaced (title_fields Three))) (Some (Opening Three)) _ next _ (titled Three)
-    (yes (bytes_eq line (spaced (title_fields Four))) (Some (Opening Four)) _ next _ (titled Four)
-    (yes (bytes_eq line (spaced (title_fields Five))) (Some (Opening Five)) None next _ (titled Five) (λ e. cc))))) e
+    (yes (bytes_eq line (spaced (title_fields Three))) (Some (Opening Three)) None next _ (titled Three) (λ e. cc))) e
   where
     titled : (f : Format) → bytes_eq line (spaced (title_fields f)) ≡ true → Some (Opening f) ≡ Some next
         → Reached Title next
@@ -743,18 +737,24 @@ goes-end : (f : Format) (s : State) (c : ℕ) → Goes f s c (text_of (left f []
 unfolding run_of
 goes-end f s c = record { history = []; fits = All-nil (IsEntry f); legal = refl; counted = omega arith; text = refl }
 
-opens-end : (f : Format) (g : Option ℕ) → may_open f g ≡ true → AreBoardSizes 1 g
-    → Opens f (spaced (item_fields (Board 1 g 0)) ++ 10 ∷ text_of (left f [] 0 0)) 0
-opens-end f g form sizes = record {
+-- a board line with one page may be in each format
+opens-end : (f : Format) → may_open f (Some 1) ≡ true
+    → Opens f (spaced (item_fields (Board 1 (Some 1) 0)) ++ 10 ∷ text_of (left f [] 0 0)) 0
+opens-end f form = record {
   processors = 1;
-  pages = g;
+  pages = Some 1;
   ticket = 0;
   form = form;
-  sizes = sizes;
+  sizes = record {
+    some_processor = omega arith;
+    processor_bound = omega arith;
+    some_page = omega arith;
+    page_bound = omega arith;
+  };
   given = omega arith;
   rest = text_of (left f [] 0 0);
   text = refl;
-  goes = goes-end f (opened_by 1 g 0) 0;
+  goes = goes-end f (opened_by 1 (Some 1) 0) 0;
 }
 
 imaged-end : (f : Format) (i : images.Stage) (e : Ending i)
@@ -771,26 +771,10 @@ imaged-end f i e = record {
   goes = goes-end f e.state 0;
 }
 
-one-page : AreBoardSizes 1 (Some 1)
-one-page = record {
-  some_processor = omega arith;
-  processor_bound = omega arith;
-  some_page = omega arith;
-  page_bound = omega arith;
-}
-
 alive-opening : (f : Format) → Alive (Opening f)
-alive-opening One = record { rest = _; entries = 0; on = inl (opens-end One (Some 1) refl one-page) }
-alive-opening Two = record { rest = _; entries = 0; on = inl (opens-end Two (Some 1) refl one-page) }
-alive-opening Three =
-    record { rest = _; entries = 0; on = inr (refl, imaged-end Three images.Untitled (can-end images.Untitled tt)) }
-alive-opening Four =
-    record {
-      rest = _;
-      entries = 0;
-      on = inl (opens-end Four None refl (record { some = omega arith; bound = omega arith }));
-    }
-alive-opening Five = record { rest = _; entries = 0; on = inl (opens-end Five (Some 1) refl one-page) }
+alive-opening One = record { rest = _; entries = 0; on = inl (opens-end One refl) }
+alive-opening Two = record { rest = _; entries = 0; on = inl (opens-end Two refl) }
+alive-opening Three = record { rest = _; entries = 0; on = inl (opens-end Three refl) }
 
 pub alive : (stage : Stage) → Fits stage → Alive stage
 alive Title fits =

@@ -23,7 +23,7 @@ use Rattle.text_lines.proofs.ReadLemmas.{then-some, then-read, yes, u8-only, u8-
 use Rattle.text_lines.proofs.SizeLemmas.{sizes-are}
 use Rattle.text_lines.proofs.WrittenLemmas.{bytes-plain, bytes-short, event-plain, board-written}
 use Rattle.text_history.specs.declared.format.Format.{Format}
-use Rattle.text_history.specs.declared.format.Format.TheVariants.{One, Two, Three, Four, Five}
+use Rattle.text_history.specs.declared.format.Format.TheVariants.{One, Two, Three}
 use Rattle.text_history.specs.Trace.{IsEntry, is_reset, is_send, has_line, may_open, title_fields, entry_fields, end_fields}
 use Rattle.text_trace.specs.inside.Stages.{has_fields, with_line, parse_entry, entry_at, Board, within_limits, parse_board, board_at}
 use Rattle.synic_board.specs.Replies.{IsReply}
@@ -50,8 +50,6 @@ pub title-written : (f : Format) → IsWritten (title_fields f)
 title-written One = written _ _ (plain_by (codes "trace") refl, (plain_by (codes "1") refl, tt)) (omega arith)
 title-written Two = written _ _ (plain_by (codes "trace") refl, (plain_by (codes "2") refl, tt)) (omega arith)
 title-written Three = written _ _ (plain_by (codes "trace") refl, (plain_by (codes "3") refl, tt)) (omega arith)
-title-written Four = written _ _ (plain_by (codes "trace") refl, (plain_by (codes "4") refl, tt)) (omega arith)
-title-written Five = written _ _ (plain_by (codes "trace") refl, (plain_by (codes "5") refl, tt)) (omega arith)
 
 pub end-written : (f : Format) (n next : ℕ) → IsWritten (end_fields f n next)
 end-written One n next =
@@ -60,12 +58,6 @@ end-written Two n next =
     written _ _ (plain_by (codes "end") refl, (digits-plain 10 n, (digits-plain 10 next, tt)))
     (omega (arith, digits-short 10 n, digits-short 10 next))
 end-written Three n next =
-    written _ _ (plain_by (codes "end") refl, (digits-plain 10 n, (digits-plain 10 next, tt)))
-    (omega (arith, digits-short 10 n, digits-short 10 next))
-end-written Four n next =
-    written _ _ (plain_by (codes "end") refl, (digits-plain 10 n, (digits-plain 10 next, tt)))
-    (omega (arith, digits-short 10 n, digits-short 10 next))
-end-written Five n next =
     written _ _ (plain_by (codes "end") refl, (digits-plain 10 n, (digits-plain 10 next, tt)))
     (omega (arith, digits-short 10 n, digits-short 10 next))
 
@@ -185,9 +177,7 @@ fields-line f (word ∷ fields) = by f (parse_event (word ∷ fields)) refl
     by f None is = no-event-line (has_fields f (word ∷ fields)) None refl
     by One (Some e) is = λ i. cond (not (resets e is i) && not (sends e is i)) (Some e) None
     by Two (Some e) is = ap (λ (t : Bool). cond (not t) (Some e) None) (sends e is)
-    by Three (Some e) is = ap (λ (t : Bool). cond (not t) (Some e) None) (sends e is)
-    by Four (Some e) is = ap (λ (t : Bool). cond (not t) (Some e) None) (sends e is)
-    by Five (Some e) is = refl
+    by Three (Some e) is = refl
 
 -- the event of a line, from the fields after the actor's number
 pub entry-after : (f : Format) (line : List ℕ) (actor : ℕ) (more : Fields)
@@ -204,8 +194,6 @@ end-first : (f : Format) (n next : ℕ) (fields : Fields) (word : List ℕ) → 
 end-first One n next fields word e = cc
 end-first Two n next fields word e = cc
 end-first Three n next fields word e = cc
-end-first Four n next fields word e = cc
-end-first Five n next fields word e = cc
 
 pub end-no_entry : (f : Format) (n next actor : ℕ) (event : Event) → actor < 256 → IsEvent event
     → spaced (end_fields f n next) ≡ spaced (entry_fields actor event) → ⊥

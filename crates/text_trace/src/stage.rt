@@ -116,10 +116,6 @@ fn take_title(stage: &mut Stage, line: &[u8]) -> Taken<()>
         Format::Two
     } else if line == b"trace 3".as_slice() {
         Format::Three
-    } else if line == b"trace 4".as_slice() {
-        Format::Four
-    } else if line == b"trace 5".as_slice() {
-        Format::Five
     } else {
         return Taken::Wrong(());
     };
@@ -330,7 +326,7 @@ fn has_fields(format: Format, fields: &Fields<'_>) -> bool
 {
     match format {
         Format::One => fields.after(b"reset").is_none() && fields.after(b"send").is_none(),
-        Format::Two | Format::Three | Format::Four => fields.after(b"send").is_none(),
-        Format::Five => true,
+        Format::Two => fields.after(b"send").is_none(),
+        Format::Three => true,
     }
 }

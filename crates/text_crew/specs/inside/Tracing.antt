@@ -7,20 +7,18 @@ use Rattle.board_threads.specs.declared.settling.Ended.{Ended}
 use Rattle.text_image.specs.Image.{image as image_of}
 use Rattle.text_restore.specs.Images.{IsImage}
 use Rattle.text_history.specs.Trace.{IsEntry, board_text, format_for, trace_text}
-use Rattle.text_history.specs.declared.format.Format.{Format}
-use Rattle.text_history.specs.declared.format.Format.TheVariants.{Three}
-use Rattle.text_crew.specs.Running.{line_pages, opened_format}
+use Rattle.text_crew.specs.Running.{line_pages}
 use Rattle.text_crew.specs.declared.outcome.Outcome.{Outcome}
 use Rattle.text_crew.specs.declared.outcome.Outcome.TheVariants as outcomes
 
--- it was written after a beginning, in this format or with a send in format 5, or an allocation failed
-abbrev pub IsTraced : Format → List ℕ → Outcome → Ended → List ℕ → List ℕ → Type 0
-IsTraced format beginning outcomes.Done ended old new =
-    All (IsEntry (format_for format ended.history.items)) ended.history.items
+-- it was written after a beginning, in the format for these pages, or an allocation failed
+abbrev pub IsTraced : Option ℕ → List ℕ → Outcome → Ended → List ℕ → List ℕ → Type 0
+IsTraced pages beginning outcomes.Done ended old new =
+    All (IsEntry (format_for pages ended.history.items)) ended.history.items
     × (new ≡ old ++ trace_text
-    (format_for format ended.history.items) beginning ended.history.items ended.board.state.next_ticket)
-IsTraced format beginning outcomes.Memory ended old new = Unit {0}
-IsTraced format beginning outcome ended old new = ⊥
+    (format_for pages ended.history.items) beginning ended.history.items ended.board.state.next_ticket)
+IsTraced pages beginning outcomes.Memory ended old new = Unit {0}
+IsTraced pages beginning outcome ended old new = ⊥
 
 -- the board of a crew, and its image if it was given
 abbrev pub Begins : Option State → Setup → Option (List ℕ) → State → Type 0
@@ -28,10 +26,10 @@ Begins None setup image state =
     (image ≡ None) × (state ≡ opened setup.processors setup.pages setup.first_ticket) × (setup.first_ticket < 2 ^ 64)
 Begins (Some s) setup image state = (image ≡ Some (image_of s)) × (state ≡ s) × IsImage (image_of s) s
 
--- the format of the trace without a send, and its beginning
-abbrev pub begun_format : Option (List ℕ) → ℕ → Format
-begun_format None pages = opened_format pages
-begun_format (Some image) pages = Three
+-- the pages in the board line of the trace, if it has them, and its beginning
+abbrev pub begun_pages : Option (List ℕ) → ℕ → Option ℕ
+begun_pages None pages = line_pages pages
+begun_pages (Some image) pages = None
 
 abbrev pub begun_text : Option (List ℕ) → Setup → List ℕ
 begun_text None setup = board_text setup.processors (line_pages setup.pages) setup.first_ticket

@@ -14,7 +14,7 @@ use Rattle.text_restore.specs.Restoring as images
 use Rattle.text_restore.specs.Taking.{has_ended, stage_of as image_stage_of}
 use Rattle.text_history.specs.Trace.{has_line, may_open, may_restore, title_fields, end_fields}
 use Rattle.text_history.specs.declared.format.Format.{Format}
-use Rattle.text_history.specs.declared.format.Format.TheVariants.{One, Two, Three, Four, Five}
+use Rattle.text_history.specs.declared.format.Format.TheVariants.{One, Two, Three}
 use Rattle.text_trace.specs.declared.stage.Stage.{Stage as BoardModel}
 use Rattle.text_trace.specs.declared.stage.Stage.TheVariants as held
 use Rattle.text_trace.specs.declared.stage.Opened.{Opened}
@@ -38,8 +38,6 @@ pub data Stage : Type 0 where
 abbrev pub has_fields : Format → Fields → Bool
 has_fields One (word ∷ fields) = not (bytes_eq word (codes "reset")) && not (bytes_eq word (codes "send"))
 has_fields Two (word ∷ fields) = not (bytes_eq word (codes "send"))
-has_fields Three (word ∷ fields) = not (bytes_eq word (codes "send"))
-has_fields Four (word ∷ fields) = not (bytes_eq word (codes "send"))
 has_fields f fields = true
 
 -- the event of the fields after an actor's number, which may be any, if it has a line in the format
@@ -96,8 +94,6 @@ follow Title line =
     if bytes_eq line (spaced (title_fields One)) then Some (Opening One)
     else if bytes_eq line (spaced (title_fields Two)) then Some (Opening Two)
     else if bytes_eq line (spaced (title_fields Three)) then Some (Opening Three)
-    else if bytes_eq line (spaced (title_fields Four)) then Some (Opening Four)
-    else if bytes_eq line (spaced (title_fields Five)) then Some (Opening Five)
     else None
 follow (Opening f) line =
     if begins_image f line then Some (Image f images.Titled) else option_map (begun f) (board_at f line)

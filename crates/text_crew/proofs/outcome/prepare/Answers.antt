@@ -3,7 +3,7 @@ use Rattle.std.proofs.lemmas.Bool.{both_ways}
 use Rattle.board_threads.specs.Crew.{lists}
 use Rattle.board_threads.specs.Judging.{has_bad_step}
 use Rattle.text_crew.specs.inside.View.{crew_of, image_in, state_in}
-use Rattle.text_crew.specs.inside.Tracing.{IsTraced, begun_format, begun_text}
+use Rattle.text_crew.specs.inside.Tracing.{IsTraced, begun_pages, begun_text}
 use Rattle.text_crew.specs.Running.{IsScriptHistory}
 use Rattle.text_crew.proofs.Judged.{script-sized, none-bad, begun-count}
 use Rattle.text_crew.proofs.Traced.{begun}
@@ -41,8 +41,8 @@ returns-in-Ok g c =
       raises = e.raises;
       clear = e.clear;
     } in
-    let was : IsTraced (begun_format image s.setup.pages) (begun_text image s.setup) c.put_ended.result ended [] out =
-    subst (λ (old : List ℕ). IsTraced (begun_format image s.setup.pages) (begun_text image s.setup) c.put_ended.result
+    let was : IsTraced (begun_pages image s.setup.pages) (begun_text image s.setup) c.put_ended.result ended [] out =
+    subst (λ (old : List ℕ). IsTraced (begun_pages image s.setup.pages) (begun_text image s.setup) c.put_ended.result
     ended old out) c.requires.empty c.put_ended.ensures in
     begun (state_in c.args.board) image s b c.put_ended.result ended out c.requires.good c.in-Some.ensures
     is e.settled.leads was

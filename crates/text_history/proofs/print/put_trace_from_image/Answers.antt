@@ -1,24 +1,11 @@
-use Rattle.std.proofs.Common.{◌≡◌, ◌++◌, ℕ, List, OnOk, subst}
 use Rattle.std.proofs.lemmas.Result.{on_ok_weaker}
-use Rattle.text_history.specs.declared.format.Format.{Format}
 use Rattle.text_history.specs.declared.format.Format.TheVariants.{Three}
-use Rattle.text_history.specs.Trace.{trace_text}
-use Rattle.text_history.proofs.PrintLemmas.{trace-parts, three-all, all-written}
+use Rattle.text_history.proofs.PrintLemmas.{trace-parts}
 use Rattle.text_history.proofs.print.put_trace_from_image.Goals as goal
 
 pub returns-clause-written : goal.returns-clause-written
 returns-clause-written c =
-    let beginning : List ℕ = c.args.image.now in
-    let history = c.args.history.now in
-    let next = c.args.next_ticket in
-    subst (λ (f : Format). OnOk c.put_rest.result
-    (c.put_rest.new.out.items
-    ≡ c.args.out.now.items ++ trace_text f beginning history next)) c.for_history-format.ensures
-    (on_ok_weaker c.put_rest.result
-    (λ h. trace-parts c.for_history-format.result beginning history next c.args.out.now.items _ _ _
+    on_ok_weaker c.put_rest.result
+    (λ h. trace-parts Three c.args.image.now c.args.history.now c.args.next_ticket c.args.out.now.items _ _ _
     c.in_ok-put_title.ensures c.in_ok-extend_from_slice.ensures.items h)
-    c.put_rest.ensures.written)
-
-pub returns-clause-fits : goal.returns-clause-fits
-returns-clause-fits c =
-    on_ok_weaker c.put_rest.result (λ fits. all-written Three three-all c.args.history.now fits) c.put_rest.ensures.fits
+    c.put_rest.ensures.written
