@@ -800,8 +800,8 @@ typedef struct synicboard_verdict {
     uint64_t line;                      /* the first wrong line, counted from 1, or 0 */
 } synicboard_verdict;
 
-/* Checks whether a text is the trace of a legal history, in one of the formats 1 to 5. A trace of format 3
- * begins with an image, as synicboard_save writes it, and one of format 5 may. Allocates a board of its own. */
+/* Checks whether a text is the trace of a legal history, in one of the formats 1 to 3. A trace of format 3
+ * may begin with an image, as synicboard_save writes it. Allocates a board of its own. */
 synicboard_verdict synicboard_check(const uint8_t *trace, size_t length);
 
 /* Writes the two lines of a trace entry for an event and its reply, each with its line feed, as much as
