@@ -24,7 +24,7 @@ enum { PERIOD = 20000, TIMED_EVERY = 8, FLAG_COUNT = 64, TIMER_MESSAGE = 0x80000
 enum { MOST_HIDDEN = 8, SHOWN = PROCESSORS };
 
 /* What a guest has seen, and what it must see. `hidden_by` is the processor whose page hides its message page; the
- * guest has its lock while it uses its pages, and the host while it maps them anew. */
+ * guest has its lock while it uses its pages, and the host while it maps them again. */
 struct guest {
     pthread_mutex_t mapped;
     uint64_t posted, read, timed, expired, set, cleared, hidden;
