@@ -61,9 +61,10 @@ def of_trace(text):
 def trace(given, reference):
     """tools/conform trace"""
     text = suite.read(given.report)
-    if text.splitlines()[:1] == boardlog.TITLE_OF_AN_IMAGE:
+    is_trace = text.splitlines()[:1] in boardlog.TITLES
+    if is_trace and text.splitlines()[1:2] == boardlog.IMAGE:
         raise suite.BadSuite(boardlog.NO_IMAGES)
-    events = of_trace(text) if text.splitlines()[:1] in boardlog.TITLES else of_report(text)
+    events = of_trace(text) if is_trace else of_report(text)
     lines = [line for line, _ in events]
     told = answers.answers_of(peers.refuse_faults(given.report, reference, lines), len(lines) - 1)
     # Replies alone are recorded, so the notices are left out of the comparison.
