@@ -11,8 +11,8 @@ use std::marker::{Model, PhantomData};
 use std::snapshot::Snapshot;
 use synic_board::{Event, Reply};
 
-/// A row for each actor: its number, and what its events were answered. Only an actor's own part changes its row, so a
-/// roster under a lock and the parts outside agree. It takes no bytes.
+/// A row for each actor: its number, and what its events were answered. Only an actor's own part
+/// changes its row, so a roster under a lock and the parts outside agree. It takes no bytes.
 pub struct Roster {
     marker: PhantomData<()>,
     pub ghost name: { ℕ },

@@ -41,7 +41,7 @@ pub fn boards_that_differ_in_local_apics_answer_alike()
 /// What is taken over by a local APIC outside the board stays requested: a run in which it takes over requests of a
 /// processor after each event leads, with all that it took over, to the same board as the events alone. So the
 /// vectors requested at the whole board are those requested at the board and those outside, and all else is the same.
-/// `take` and a reset of the processor, which end requests, are left out.
+/// `take` and a reset of the processor, which end requests, are left out: the local APIC has delivered nothing yet.
 #[tactic(auto, using(crate::proofs::Outside::whole_run))]
 pub fn taken_over_requests_stay_requested()
     ensures { (s : State) (p : ℕ) (outside : Vectors) (turns : List Turn) → AreTurns s p turns

@@ -85,7 +85,7 @@ pub record MayJoin (s : State) (p : Processor) (i : Source) (m : Message) : Type
   pub behind : (t : ℕ) → slot_of s p i ≡ Some t → t < ticket_of m
   pub time : HasExpired s.moment i m
 
--- a slot can hold a ticket: it holds a message, no ticket yet, and those that wait for it are younger
+-- a slot can hold a ticket: it holds a message, no ticket yet, and the tickets of those that wait for it are greater
 pub record MayOccupy (s : State) (p : Processor) (i : Source) (t : Ticket) : Type 0 where
   pub occupied : is_slot_empty s p i ≡ false
   pub free : slot_of s p i ≡ None
