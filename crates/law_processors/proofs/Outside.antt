@@ -1,5 +1,5 @@
 -- Boards on which more vectors are requested at a processor.
-use Rattle.std.proofs.Common.{◌≡◌, ◌≢◌, ◌⊎◌, inl, inr, ℕ, ◌<◌, ◌≤◌, ◌==◌, Bool, true, false, ◌||◌, ◌&&◌, not, List, [], ◌∷◌, ◌++◌, get_or, set, map, refl, sym, ap, subst, ◌∙◌, arith}
+use Rattle.std.proofs.Common.{◌≡◌, ◌≢◌, ◌⊎◌, inl, inr, ℕ, ◌<◌, ◌≤◌, ◌==◌, Bool, true, false, ◌||◌, ◌&&◌, not, List, [], ◌∷◌, ◌++◌, get_or, set, refl, sym, ap, subst, ◌∙◌, arith}
 use Rattle.std.specs.Prelude.{Option, None, Some, length, if◌then◌else◌}
 use Rattle.std.specs.Option.{option_map_or}
 use Rattle.std.specs.Ordering.{nat_cmp, eq_by_cmp}
@@ -25,10 +25,9 @@ use Rattle.synic_board.specs.Interrupts.{is_requested, requested}
 use Rattle.synic_board.specs.Registers.{read_register, read}
 use Rattle.synic_board.specs.Suspending.{with_suspension}
 use Rattle.synic_board.specs.Resetting.{cleared}
-use Rattle.synic_board.specs.Run.{run_of}
 use Rattle.synic_board.specs.Step.{step}
 use Rattle.law_processors.specs.Elsewhere.{is_request, others}
-use Rattle.law_processors.specs.Outside.{with_requests, without_requests, ends_requests, Turn, taken_over, AreTurns}
+use Rattle.law_processors.specs.Outside.{with_requests, without_requests, ends_requests, Turn, taken_over, whole, AreTurns}
 use Rattle.law_processors.proofs.Carried.{Change, Carries, IsCarried}
 use Rattle.law_processors.proofs.CarriedSteps.{carried-step}
 
@@ -245,58 +244,83 @@ module _ (p : ℕ) (vectors : Vectors) where
       (carried-step to_more more-carried (ends_requests p) (λ q. refl) (λ s q number _. reads s q number) clears s
       event e)
 
--- what is taken over stays requested, on the board or outside
-pub taken-once : (s : State) (p : ℕ) (outside vectors : Vectors)
-    → finset.is_subset vectors (apic_of s p).requested ≡ true
-    → with_requests (without_requests s p vectors) p (finset.union outside vectors) ≡ with_requests s p outside
-taken-once s p outside vectors part = by (cases_lt p (length s.apics))
+-- a local APIC that is written twice
+twice : (f g : Apic → Apic) (s : State) (p : ℕ)
+    → with_apic (with_apic s p (f (apic_of s p))) p (g (apic_of (with_apic s p (f (apic_of s p))) p))
+    ≡ with_apic s p (g (f (apic_of s p)))
+twice f g s p = ap (λ (xs : List Apic). record s { apics = xs }) (by (cases_lt p (length s.apics)))
   where
-    a : Apic
-    a = apic_of s p
-
-    b : Apic
-    b = record a { requested = finset.difference a.requested vectors }
-
-    logic : (r o v : Bool) → (v ≡ true → r ≡ true) → ((r && not v) || (o || v)) ≡ (r || o)
-    logic true true true h = refl
-    logic true true false h = refl
-    logic true false true h = refl
-    logic true false false h = refl
-    logic false o true h = let yes = h refl in absurd (cc)
-    logic false true false h = refl
-    logic false false false h = refl
-
-    sets : finset.union (finset.difference a.requested vectors) (finset.union outside vectors)
-        ≡ finset.union a.requested outside
-    sets = same-sets (finset.union (finset.difference a.requested vectors) (finset.union outside vectors))
-        (finset.union a.requested outside) (λ q.
-        finset.contains-union nat_cmp_total (finset.difference a.requested vectors) (finset.union outside vectors) q
-        ∙ (λ i. finset.contains-difference nat_cmp_total a.requested vectors q i
-        || finset.contains-union nat_cmp_total outside vectors q i)
-        ∙ logic (finset.contains a.requested q) (finset.contains outside q) (finset.contains vectors q)
-        (finset.is_subset-contains nat_cmp_total vectors a.requested part q)
-        ∙ sym (finset.contains-union nat_cmp_total a.requested outside q))
-
-    at : Apic → List Apic
-    at x = set (set s.apics p b) p (join (finset.union outside vectors) x)
+    x : Apic
+    x = f (apic_of s p)
 
     by : (p < length s.apics) ⊎ (length s.apics ≤ p)
-        → with_requests (without_requests s p vectors) p (finset.union outside vectors) ≡ with_requests s p outside
-    by (inl inside) = ap (λ (xs : List Apic). record s { apics = xs })
-        (ap at (get_or-set_same s.apics p b empty_apic inside)
-        ∙ set-set s.apics p b (join (finset.union outside vectors) b)
-        ∙ ap (λ (r : Vectors). set s.apics p (record a { requested = r })) sets)
-    by (inr past) = ap (λ (xs : List Apic). record s { apics = xs })
-        (set-set s.apics p b _ ∙ set_past s.apics p _ past ∙ sym (set_past s.apics p _ past))
+        → set (set s.apics p x) p (g (get_or (set s.apics p x) p empty_apic)) ≡ set s.apics p (g x)
+    by (inl inside) = ap (λ (y : Apic). set (set s.apics p x) p (g y)) (get_or-set_same s.apics p x empty_apic inside)
+        ∙ set-set s.apics p x (g x)
+    by (inr past) = set-set s.apics p x _ ∙ set_past s.apics p _ past ∙ sym (set_past s.apics p (g x) past)
+
+-- these vectors leave the requests of a local APIC
+abbrev drop : Vectors → Apic → Apic
+drop vectors a = record a { requested = finset.difference a.requested vectors }
+
+-- after a turn: what is taken over stays requested, on the board or outside, until it is ended
+taken-once : (s : State) (p : ℕ) (outside taken ended : Vectors)
+    → finset.is_subset taken (apic_of s p).requested ≡ true
+    → ((v : ℕ) → finset.contains ended v ≡ true
+    → finset.contains (finset.difference (apic_of s p).requested taken) v ≡ false) →
+    with_requests (without_requests s p taken) p (finset.difference (finset.union outside taken) ended)
+    ≡ without_requests (with_requests s p outside) p ended
+taken-once s p outside taken ended part gone =
+    twice (drop taken) (join (finset.difference (finset.union outside taken) ended)) s p
+    ∙ ap (λ (r : Vectors). with_apic s p (record (apic_of s p) { requested = r })) sets
+    ∙ sym (twice (join outside) (drop ended) s p)
+  where
+    r : Vectors
+    r = (apic_of s p).requested
+
+    logic : (r o t e : Bool) → (t ≡ true → r ≡ true) → (e ≡ true → (r && not t) ≡ false)
+        → ((r && not t) || ((o || t) && not e)) ≡ ((r || o) && not e)
+    logic r o t true in_r out_r = let none = out_r refl in ap (λ b. b || ((o || t) && false)) none ∙ falls o t r
+      where
+        falls : (o t r : Bool) → ((o || t) && false) ≡ ((r || o) && false)
+        falls true t true = refl
+        falls true t false = refl
+        falls false true true = refl
+        falls false true false = refl
+        falls false false true = refl
+        falls false false false = refl
+    logic true true true false in_r out_r = refl
+    logic true true false false in_r out_r = refl
+    logic true false true false in_r out_r = refl
+    logic true false false false in_r out_r = refl
+    logic false o true false in_r out_r = let yes = in_r refl in absurd (cc)
+    logic false true false false in_r out_r = refl
+    logic false false false false in_r out_r = refl
+
+    sets : finset.union (finset.difference r taken) (finset.difference (finset.union outside taken) ended)
+        ≡ finset.difference (finset.union r outside) ended
+    sets = same-sets (finset.union (finset.difference r taken) (finset.difference (finset.union outside taken) ended))
+        (finset.difference (finset.union r outside) ended) (λ q.
+        finset.contains-union nat_cmp_total (finset.difference r taken)
+        (finset.difference (finset.union outside taken) ended) q
+        ∙ (λ i. finset.contains-difference nat_cmp_total r taken q i
+        || (finset.contains-difference nat_cmp_total (finset.union outside taken) ended q
+        ∙ ap (λ b. b && not (finset.contains ended q)) (finset.contains-union nat_cmp_total outside taken q)) i)
+        ∙ logic (finset.contains r q) (finset.contains outside q) (finset.contains taken q) (finset.contains ended q)
+        (finset.is_subset-contains nat_cmp_total taken r part q)
+        (λ e. sym (finset.contains-difference nat_cmp_total r taken q) ∙ gone q e)
+        ∙ sym (finset.contains-difference nat_cmp_total (finset.union r outside) ended q
+        ∙ ap (λ b. b && not (finset.contains ended q)) (finset.contains-union nat_cmp_total r outside q)))
 
 -- a whole run
 pub whole_run : (s : State) (p : ℕ) (outside : Vectors) (turns : List Turn) → AreTurns s p turns
     → with_requests (taken_over s p outside turns).0 p (taken_over s p outside turns).1
-    ≡ (run_of (with_requests s p outside) (map (λ (turn : Turn). turn.0) turns)).0
-unfolding taken_over AreTurns run_of
+    ≡ whole (with_requests s p outside) p turns
+unfolding taken_over whole AreTurns
 whole_run s p outside [] h = refl
 whole_run s p outside (turn ∷ turns) h =
-    let now : State = (step s turn.0).0 in
-    whole_run (without_requests now p turn.1) p (finset.union outside turn.1) turns h.2
-    ∙ ap (λ (x : State). (run_of x (map (λ (t : Turn). t.0) turns)).0)
-    (taken-once now p outside turn.1 h.1 ∙ sym (after-event p outside s turn.0 h.0))
+    let now : State = (step s turn.event).0 in
+    whole_run (without_requests now p turn.taken) p
+    (finset.difference (finset.union outside turn.taken) turn.ended) turns h.3
+    ∙ ap (λ (x : State). whole x p turns) (taken-once now p outside turn.taken turn.ended h.1 h.2
+    ∙ ap (λ (x : State). without_requests x p turn.ended) (sym (after-event p outside s turn.event h.0)))

@@ -1,5 +1,5 @@
 // Theorems about events of different processors.
-ghost use Rattle.std.specs.Prelude.{◌≡◌, ◌≢◌, ℕ, true, false, List, [], map};
+ghost use Rattle.std.specs.Prelude.{◌≡◌, ◌≢◌, ℕ, true, false, List, []};
 ghost use Rattle.std.specs.List.{All};
 ghost use Rattle.synic_board.specs.declared.event.Event.{Event};
 ghost use Rattle.synic_board.specs.State.{State};
@@ -8,9 +8,8 @@ ghost use Rattle.synic_board.specs.Step.{step};
 ghost use Rattle.arrayvec.specs.ArrayVec.{ArrayVec};
 ghost use Rattle.law_processors.specs.Apart.{IsOwn, Commute, LeavesOthers};
 ghost use Rattle.lapic_core.specs.Vectors.{Vectors};
-ghost use Rattle.synic_board.specs.Run.{run_of};
 ghost use Rattle.law_processors.specs.Elsewhere.{idle, is_apics_own, AnswerAlike};
-ghost use Rattle.law_processors.specs.Outside.{Turn, taken_over, AreTurns, with_requests};
+ghost use Rattle.law_processors.specs.Outside.{Turn, taken_over, whole, AreTurns, with_requests};
 ghost use Rattle.law_processors.specs.Isolation.{touches, LeavesAlone, Untouched, RunsAlone, KeepsShared, StoresAlone, NoneIsVisible};
 ghost use Rattle.law_processors.specs.Influence.{Agree, ConcernsAlone, ActsAlike};
 ghost use Rattle.law_processors.specs.Exchange.{AreConfined, EndAlike};
@@ -38,15 +37,16 @@ pub fn boards_that_differ_in_local_apics_answer_alike()
     ensures { (s t : State) (event : Event) → idle s ≡ idle t → AnswerAlike s t event }
 {}
 
-/// What is taken over by a local APIC outside the board stays requested: a run in which it takes over requests of a
-/// processor after each event leads, with all that it took over, to the same board as the events alone. So the
-/// vectors requested at the whole board are those requested at the board and those outside, and all else is the same.
-/// `take` and a reset of the processor, which end requests, are left out: the local APIC has delivered nothing yet.
+/// What is taken over by a local APIC outside the board stays requested until it is ended there: a run in which, after
+/// each event, it takes over requests of a processor and ends some that it has leads, with what it still has, to the
+/// board of the same events where the same vectors are ended. So the vectors requested at the whole board are those
+/// requested at the board and those outside that are not ended, and all else is the same. What is ended must not be
+/// requested at the board once more; `take` and a reset of the processor are left out.
 #[tactic(auto, using(crate::proofs::Outside::whole_run))]
 pub fn taken_over_requests_stay_requested()
     ensures { (s : State) (p : ℕ) (outside : Vectors) (turns : List Turn) → AreTurns s p turns
         → with_requests (taken_over s p outside turns).0 p (taken_over s p outside turns).1
-        ≡ (run_of (with_requests s p outside) (map (λ (turn : Turn). turn.0) turns)).0 }
+        ≡ whole (with_requests s p outside) p turns }
 {}
 
 /// The events of a local APIC alone, `take` and writes of EOI and TPR, change nothing but that local APIC,
