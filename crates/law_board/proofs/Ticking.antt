@@ -11,7 +11,7 @@ use Rattle.stimer_bank.specs.Bank.{is_later, due_below, due_list, dues}
 use Rattle.stimer_bank.proofs.Shown.{length-dues}
 use Rattle.synic_board.specs.declared.event.Reply.TheVariants.{Done}
 use Rattle.synic_board.specs.State.{State, bank_of}
-use Rattle.synic_board.specs.Effects.{Outcome, after, answered, unchanged, refused}
+use Rattle.synic_board.specs.Effects.{after, answered, unchanged, refused}
 use Rattle.synic_board.specs.Timers.{is_ready, attempted, attempted_until, most_expiries, at_moment, ticked}
 use Rattle.synic_board.proofs.keeping.Requests.{either}
 use Rattle.law_board.specs.Ticks.{attempted_all, ticked_all}

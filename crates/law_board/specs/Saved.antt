@@ -1,6 +1,6 @@
 -- What an image holds of a state: a part unchanged, or its elements that differ from those of a newly opened board,
 -- with their numbers.
-use Rattle.std.specs.Prelude.{◌*◌, ℕ, suc, Bool, true, false, ◌==◌, List, [], ◌∷◌, Option, None, is_none, length, map, replicate, slice_index_or, slice_set, if◌then◌else◌}
+use Rattle.std.specs.Prelude.{◌*◌, ℕ, suc, Bool, true, false, ◌==◌, List, [], ◌∷◌, Option, None, is_none, length, map, replicate, slice_set, if◌then◌else◌}
 use Rattle.std.specs.List.{list_all}
 use Rattle.board_terms.specs.Quantities.{Moment, Ticket}
 use Rattle.board_terms.specs.declared.messages.Message.{Message}

@@ -1,5 +1,5 @@
 -- A tick without a limit (TLFS, "Synthetic Timers").
-use Rattle.std.specs.Prelude.{ℕ, nat_lt, ◌==◌, List, [], ◌∷◌, if◌then◌else◌}
+use Rattle.std.specs.Prelude.{nat_lt, ◌==◌, List, [], ◌∷◌, if◌then◌else◌}
 use Rattle.board_terms.specs.Quantities.{TimerId, Moment}
 use Rattle.board_terms.specs.declared.refusal.Refusal.TheVariants.{ClockBack}
 use Rattle.stimer_bank.specs.Bank.{dues, due_list}

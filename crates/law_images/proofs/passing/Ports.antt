@@ -8,7 +8,7 @@ use Rattle.board_terms.specs.declared.messages.PortShape.TheVariants.{Messages, 
 use Rattle.board_terms.specs.declared.refusal.Refusal.{Refusal}
 use Rattle.board_terms.specs.declared.refusal.Refusal.TheVariants.{UnknownPort, PortOpen, BadTarget}
 use Rattle.event_ports.specs.declared.ports.Port.{Port}
-use Rattle.event_ports.specs.Ports.{port_count, port_at, buffers_at, buffers_to, has_room, open_refusal}
+use Rattle.event_ports.specs.Ports.{port_at, buffers_at, buffers_to, has_room, open_refusal}
 use Rattle.gpa_space.specs.Space.{is_sparse}
 use Rattle.event_ports.specs.Shapes.{fits, buffers_of}
 use Rattle.synic_board.specs.declared.event.Reply.TheVariants.{Done}
